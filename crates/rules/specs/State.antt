@@ -1,0 +1,77 @@
+-- The layout state, and the small steps that the handlers are chains of.
+use mathlib.Core.Bool.{Bool, false}
+use mathlib.Core.List.{List, [], _∷_}
+use Prim.Native.Nat.{ℕ}
+use Rattle.rules.specs.declared.SpanInfo.{SpanInfo}
+use Rattle.rules.specs.Base.{if_then_else_, _▹_}
+use Rattle.rules.specs.Sheet.{Env}
+use Rattle.rules.specs.Text.{Text, fits, append, refuse, cutBlanks, cutWhite, indentOf, newLine}
+use Rattle.rules.specs.Indentation.{Indentation, noIndentation, indentLevel}
+use Rattle.rules.specs.Indentation as indentation
+use Rattle.rules.specs.InlineBlock.{full}
+
+-- inlineBlock: the lengths of the open inline blocks; blockLevel: the open level; index: the next parameter
+pub record State : Type 0 where
+  pub text : Text
+  pub indentation : Indentation
+  pub inlineBlock : List ℕ
+  pub blockLevel : ℕ
+  pub index : ℕ
+
+unfoldable pub start : State
+start = record { text = fits []; indentation = noIndentation; inlineBlock = []; blockLevel = 0; index = 0 }
+
+unfoldable pub onText : (Text → Text) → State → State
+onText f s = record { text = f (s .text); indentation = s .indentation; inlineBlock = s .inlineBlock; blockLevel = s .blockLevel; index = s .index }
+
+unfoldable pub onIndentation : (Indentation → Indentation) → State → State
+onIndentation f s = record { text = s .text; indentation = f (s .indentation); inlineBlock = s .inlineBlock; blockLevel = s .blockLevel; index = s .index }
+
+unfoldable pub onInlineBlock : (List ℕ → List ℕ) → State → State
+onInlineBlock f s = record { text = s .text; indentation = s .indentation; inlineBlock = f (s .inlineBlock); blockLevel = s .blockLevel; index = s .index }
+
+unfoldable pub onBlockLevel : (ℕ → ℕ) → State → State
+onBlockLevel f s = record { text = s .text; indentation = s .indentation; inlineBlock = s .inlineBlock; blockLevel = f (s .blockLevel); index = s .index }
+
+unfoldable pub onIndex : (ℕ → ℕ) → State → State
+onIndex f s = record { text = s .text; indentation = s .indentation; inlineBlock = s .inlineBlock; blockLevel = s .blockLevel; index = f (s .index) }
+
+-- f where b holds, else g; f where b holds
+unfoldable pub choose : Bool → (State → State) → (State → State) → State → State
+choose b f g s = if b then f s else g s
+
+unfoldable pub when : Bool → (State → State) → State → State
+when b f s = if b then f s else s
+
+unfoldable pub refuseIf : Bool → ℕ → State → State
+refuseIf b n s = when b (onText (refuse n)) s
+
+unfoldable pub pushStr : Env → List ℕ → State → State
+pushStr e v s = onText (append (e .room) v) s
+
+unfoldable pub push : Env → ℕ → State → State
+push e c s = pushStr e (c ∷ []) s
+
+unfoldable pub trimSpacesEnd : State → State
+trimSpacesEnd s = onText cutBlanks s
+
+unfoldable pub trimAllSpacesEnd : State → State
+trimAllSpacesEnd s = onText cutWhite s
+
+-- one blank after what stands there
+unfoldable pub oneBlank : Env → State → State
+oneBlank e s = s ▹ trimSpacesEnd ▹ push e 32
+
+unfoldable pub getIndent : Env → Bool → State → List ℕ
+getIndent e folded s = indentOf (e .options .indent) (indentLevel folded (s .indentation))
+
+unfoldable pub addNewLineInner : Env → Bool → State → State
+addNewLineInner e folded s = onText (newLine (e .room) (e .options .inline) (getIndent e folded s)) s
+
+unfoldable pub addNewLine : Env → State → State
+addNewLine e s = addNewLineInner e false s
+
+-- refusal 6 where the indent stack is full
+unfoldable pub increaseTopLevel : SpanInfo → State → State
+increaseTopLevel sp s =
+    s ▹ refuseIf (full (s .indentation .indentTypes)) 6 ▹ onIndentation (indentation.increaseTopLevel sp)
