@@ -211,7 +211,7 @@ spanWithin most (some sp) = leb (sp .«full_span») most
 unfoldable pub commaBreaks : Env → State → Bool
 commaBreaks e s =
     not (isActive (s .inlineBlock)
-    || (isLower (previousReserved (s .indentation)) (bytes "limit")
+    || (holds (λ v. isLower v (bytes "limit")) (previousReserved (s .indentation))
     || spanWithin (orZero (e .options .«max_inline_arguments»)) (previousTopLevelReserved (s .indentation))))
 
 unfoldable pub formatComma : Env → List ℕ → State → State

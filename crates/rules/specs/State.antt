@@ -13,7 +13,7 @@ use Rattle.rules.specs.InlineBlock.{full}
 -- inlineBlock: the lengths of the open inline blocks; blockLevel: the open level; index: the next parameter
 pub record State : Type 0 where
   pub text : Text
-  pub indentation : Indentation
+  pub indentation : Indentation (List ℕ)
   pub inlineBlock : List ℕ
   pub blockLevel : ℕ
   pub index : ℕ
@@ -24,7 +24,7 @@ start = record { text = fits []; indentation = noIndentation; inlineBlock = []; 
 unfoldable pub onText : (Text → Text) → State → State
 onText f s = record { text = f (s .text); indentation = s .indentation; inlineBlock = s .inlineBlock; blockLevel = s .blockLevel; index = s .index }
 
-unfoldable pub onIndentation : (Indentation → Indentation) → State → State
+unfoldable pub onIndentation : (Indentation (List ℕ) → Indentation (List ℕ)) → State → State
 onIndentation f s = record { text = s .text; indentation = f (s .indentation); inlineBlock = s .inlineBlock; blockLevel = s .blockLevel; index = s .index }
 
 unfoldable pub onInlineBlock : (List ℕ → List ℕ) → State → State
