@@ -1,0 +1,89 @@
+-- Two results that stand for the same stacks are one. Assumes nothing.
+use mathlib.Core.Path.{_≡_, refl, sym, ap, _∙_}
+use mathlib.Core.Bool.{Bool, true, false}
+use mathlib.Core.Option.{Option, none, some}
+use mathlib.Core.List.{List, [], _∷_, map}
+use Prim.Native.Nat.{ℕ, zero, suc, _≤_}
+use native.Mathlib.Omega.{arith}
+use Rattle.rules.specs.declared.SpanInfo.{SpanInfo}
+use Rattle.rules.specs.Indentation.{Indentation, PreviousTokens}
+use Rattle.stacks.specs.Stack.{stack}
+use Rattle.stacks.specs.Laws.{same-count, same-array}
+use Rattle.indentation.specs.declared.Previous.{Previous}
+use Rattle.indentation.specs.declared.Indentation.{Indentation as Code}
+use Rattle.indentation.specs.Of.{typeOf, wordOf, topOf, previousOf, noSpan, noPrevious, typesOf, indentationOf, Told, Stands}
+
+no-way : {A : Type 0} → _≡_ {A = ℕ} 0 1 → A
+no-way e = absurd (omega arith)
+
+-- ---- one entry
+
+one-kind : (x y : ℕ) → x ≤ 2 → y ≤ 2 → typeOf x ≡ typeOf y → x ≡ y
+unfolding typeOf
+one-kind zero zero p q e = refl
+one-kind zero (suc zero) p q e = no-way (cc)
+one-kind zero (suc (suc y)) p q e = no-way (cc)
+one-kind (suc zero) zero p q e = no-way (cc)
+one-kind (suc zero) (suc zero) p q e = refl
+one-kind (suc zero) (suc (suc y)) p q e = no-way (cc)
+one-kind (suc (suc x)) zero p q e = no-way (cc)
+one-kind (suc (suc x)) (suc zero) p q e = no-way (cc)
+one-kind (suc (suc x)) (suc (suc y)) p q e = omega arith
+
+one-word : (x y : ℕ) → wordOf x ≡ wordOf y → x ≡ y
+unfolding wordOf
+one-word zero zero e = refl
+one-word zero (suc y) e = no-way (cc)
+one-word (suc x) zero e = no-way (cc)
+one-word (suc x) (suc y) e = let z : x ≡ y = cc in omega arith
+
+pub record SameTop (b : Bool) (s : SpanInfo) (d : Bool) (t : SpanInfo) : Type 0 where
+  pub told : b ≡ d
+  pub span : s ≡ t
+
+one-top : (b : Bool) (s : SpanInfo) (d : Bool) (t : SpanInfo) → (b ≡ false → s ≡ noSpan) → (d ≡ false → t ≡ noSpan) → topOf b s ≡ topOf d t → SameTop b s d t
+unfolding topOf
+one-top true s true t p q e = record { told = refl; span = cc }
+one-top true s false t p q e = no-way (cc)
+one-top false s true t p q e = no-way (cc)
+one-top false s false t p q e = record { told = refl; span = p refl ∙ sym (q refl) }
+
+one-previous : (x y : Previous) → Told x → Told y → previousOf x ≡ previousOf y → x ≡ y
+unfolding previousOf
+one-previous x y p q e =
+    let t = one-top (x .«top_level») (x .span) (y .«top_level») (y .span) p q (ap (λ (v : PreviousTokens ℕ). v .topLevelReserved) e) in
+    let a = t .told in
+    let b = t .span in
+    let w : x .word ≡ y .word = one-word (x .word) (y .word) (ap (λ (v : PreviousTokens ℕ). v .reserved) e) in
+    let r : mk (x .span) (x .word) (x .«top_level») ≡ mk (y .span) (y .word) (y .«top_level») = cc in
+    r
+  where
+    mk : SpanInfo → ℕ → Bool → Previous
+    mk s w b = record { span = s; word = w; «top_level» = b }
+
+-- ---- the stacks
+
+map-itself : (l : List ℕ) → map (λ x. x) l ≡ l
+map-itself [] = refl
+map-itself (x ∷ xs) = ap (λ (l : List ℕ). x ∷ l) (map-itself xs)
+
+pub stands-one : (w : Indentation ℕ) (r q : Code) → Stands w r → Stands w q → r ≡ q
+unfolding indentationOf typesOf
+stands-one w r q s t =
+    let e : indentationOf r ≡ indentationOf q = s .is ∙ sym (t .is) in
+    let k = ap (λ (d : Indentation ℕ). d .indentTypes) e in
+    let m = map-itself _ ∙ ap (λ (d : Indentation ℕ). d .topLevelSpan) e ∙ sym (map-itself _) in
+    let p = ap (λ (d : Indentation ℕ). d .previous) e in
+    let c = s .clean in
+    let d = t .clean in
+    let nk = same-count 0 typeOf (λ x. x ≤ 2) one-kind (r .nkinds) (q .nkinds) (r .kinds) (q .kinds) k in
+    let ak = same-array 0 typeOf (λ x. x ≤ 2) one-kind (c .kinds) (d .kinds) (c .known) (d .known) k in
+    let ns = same-count 0 (λ x. x) (λ x. Unit {0}) (λ x y u v h. h) (r .nspans) (q .nspans) (r .spans) (q .spans) m in
+    let an = same-array 0 (λ x. x) (λ x. Unit {0}) (λ x y u v h. h) (c .spans) (d .spans) (λ i. tt) (λ i. tt) m in
+    let np = same-count noPrevious previousOf Told one-previous (r .nprevious) (q .nprevious) (r .previous) (q .previous) p in
+    let ar = same-array noPrevious previousOf Told one-previous (c .previous) (d .previous) (c .told) (d .told) p in
+    let z : mk (r .kinds) (r .nkinds) (r .spans) (r .nspans) (r .previous) (r .nprevious) ≡ mk (q .kinds) (q .nkinds) (q .spans) (q .nspans) (q .previous) (q .nprevious) = cc in
+    z
+  where
+    mk : List ℕ → ℕ → List ℕ → ℕ → List Previous → ℕ → Code
+    mk k nk s ns p np = record { kinds = k; nkinds = nk; spans = s; nspans = ns; previous = p; nprevious = np }
