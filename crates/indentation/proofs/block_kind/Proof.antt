@@ -1,15 +1,11 @@
 use Rattle.indentation.specs.Of.{kindFor}
 use Rattle.indentation.proofs.block_kind.Statement.{statement}
 use Rattle.indentation.proofs.block_kind.Tie as tie
-use Rattle.indentation.proofs.block_kind.Reads as reads
-use Rattle.indentation.proofs.block_kind.Lts as lts
 
--- src/lib.rt:62:1
 returns : tie.Need-returns
 unfolding kindFor
 returns c = rw (c .if1 .taken)
 
--- src/lib.rt:62:1
 returns-2 : tie.Need-returns-2
 unfolding kindFor
 returns-2 c = rw (c .if1 .left)

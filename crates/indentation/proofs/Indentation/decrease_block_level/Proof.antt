@@ -1,16 +1,10 @@
 use borrow.Author.Needs.{needs}
-use mathlib.Core.Path.{_≡_, refl, sym, _∙_}
-use mathlib.Core.Bool.{true, false}
+use mathlib.Core.Path.{_≡_, sym, _∙_}
 use Rattle.rules.specs.Indentation.{decreaseBlockLevel}
 use Rattle.indentation.specs.Of.{Clean, indentationOf}
 use Rattle.indentation.proofs.Laws.{by-turn, by-shorter, by-closed}
 use Rattle.indentation.proofs.Indentation.decrease_block_level.Statement.{statement}
 use Rattle.indentation.proofs.Indentation.decrease_block_level.Tie as tie
-use Rattle.indentation.proofs.Indentation.decrease_block_level.Reads as reads
-use Rattle.indentation.proofs.Indentation.decrease_block_level.Lts as lts
-use Rattle.indentation.proofs.Indentation.decrease_top_level.Reads as decrease-top-level-reads
-use Rattle.indentation.proofs.Indentation.ends_top.Reads as ends-top-reads
-use Rattle.indentation.proofs.Indentation.pop_block.Reads as pop-block-reads
 
 abbrev Inv-loop : tie.InvT-loop
 Inv-loop left₀ left = Clean left × (decreaseBlockLevel (indentationOf left) ≡ decreaseBlockLevel (indentationOf left₀))
@@ -18,31 +12,24 @@ Inv-loop left₀ left = Clean left × (decreaseBlockLevel (indentationOf left) �
 abbrev μ-loop : tie.MeasureT-loop
 μ-loop left₀ left = left .nkinds
 
--- src/lib.rt:214:9
 loop-holds : tie.Need-loop-holds Inv-loop μ-loop
 loop-holds c = search needs
 
--- src/lib.rt:214:15
 ends-top-requires : tie.Need-ends-top-requires Inv-loop μ-loop
 ends-top-requires c κs = search needs
 
--- src/lib.rt:215:13
 decrease-top-level-requires : tie.Need-decrease-top-level-requires Inv-loop μ-loop
 decrease-top-level-requires c κs = search needs
 
--- src/lib.rt:214:9
 loop-less : tie.Need-loop-less Inv-loop μ-loop
 loop-less c = search (needs, by-shorter)
 
--- src/lib.rt:214:9
 loop-again : tie.Need-loop-again Inv-loop μ-loop
 loop-again c = search (needs, by-turn)
 
--- src/lib.rt:217:9
 pop-block-requires : tie.Need-pop-block-requires Inv-loop μ-loop
 pop-block-requires c κs = (search needs, sym (c .before .ends-top .ensures) ∙ c .if1 .left)
 
--- src/lib.rt:209:5
 returns : tie.Need-returns Inv-loop μ-loop
 returns c = search (needs, by-closed)
 

@@ -2,57 +2,40 @@ use Rattle.indentation.proofs.Laws.{by-no-top, by-top-pops}
 use borrow.Author.Needs.{needs}
 use Rattle.indentation.proofs.Indentation.decrease_top_level.Statement.{statement}
 use Rattle.indentation.proofs.Indentation.decrease_top_level.Tie as tie
-use Rattle.indentation.proofs.Indentation.decrease_top_level.Reads as reads
-use Rattle.indentation.proofs.Indentation.decrease_top_level.Lts as lts
-use Rattle.indentation.proofs.Indentation.ends_top.Reads as ends-top-reads
-use Rattle.indentation.proofs.less.Reads as less-reads
-use Rattle.indentation.proofs.no_previous.Reads as no-previous-reads
 
--- src/lib.rt:168:12
 ends-top-requires : tie.Need-ends-top-requires
 ends-top-requires c κs = search needs
 
--- src/lib.rt:169:17
 less-requires : tie.Need-less-requires
 less-requires c κs = search needs
 
--- src/lib.rt:170:17
 less-requires-2 : tie.Need-less-requires-2
 less-requires-2 c κs = search needs
 
--- src/lib.rt:171:17
 less-requires-3 : tie.Need-less-requires-3
 less-requires-3 c κs = search needs
 
--- src/lib.rt:172:13
 element-write-self : tie.Need-element-write-self
 element-write-self c = search needs
 
--- src/lib.rt:174:13
 mul-self : tie.Need-mul-self
 mul-self c = search needs
 
--- src/lib.rt:174:13
 element-write-self-2 : tie.Need-element-write-self-2
 element-write-self-2 c = search needs
 
--- src/lib.rt:176:32
 no-previous-requires : tie.Need-no-previous-requires
 no-previous-requires c κs = search needs
 
--- src/lib.rt:176:13
 mul-t8 : tie.Need-mul-t8
 mul-t8 c = search needs
 
--- src/lib.rt:176:13
 element-set-from-self : tie.Need-element-set-from-self
 element-set-from-self c = search needs
 
--- src/lib.rt:178:13
 returns : tie.Need-returns
 returns c = search (needs, by-top-pops)
 
--- src/lib.rt:164:5
 returns-2 : tie.Need-returns-2
 returns-2 c = search (needs, by-no-top)
 

@@ -2,22 +2,16 @@ use borrow.Author.Needs.{needs}
 use Rattle.indentation.proofs.Laws.{by-ends, by-ends-none}
 use Rattle.indentation.proofs.Indentation.ends_top.Statement.{statement}
 use Rattle.indentation.proofs.Indentation.ends_top.Tie as tie
-use Rattle.indentation.proofs.Indentation.ends_top.Reads as reads
-use Rattle.indentation.proofs.Indentation.ends_top.Lts as lts
 
--- src/lib.rt:158:13
 returns : tie.Need-returns
 returns c = search (needs, by-ends-none)
 
--- src/lib.rt:160:20
 sub-result : tie.Need-sub-result
 sub-result c = search needs
 
--- src/lib.rt:160:9
 element-copy-out-result : tie.Need-element-copy-out-result
 element-copy-out-result c = search needs
 
--- src/lib.rt:152:5
 returns-2 : tie.Need-returns-2
 returns-2 c = search (needs, by-ends)
 

@@ -2,24 +2,16 @@ use Rattle.indentation.proofs.Laws.{by-level, by-level-folded}
 use borrow.Author.Needs.{needs}
 use Rattle.indentation.proofs.Indentation.indent_level.Statement.{statement}
 use Rattle.indentation.proofs.Indentation.indent_level.Tie as tie
-use Rattle.indentation.proofs.Indentation.indent_level.Reads as reads
-use Rattle.indentation.proofs.Indentation.indent_level.Lts as lts
-use Rattle.indentation.proofs.Indentation.unfolded_count.Reads as unfolded-count-reads
-use Rattle.indentation.proofs.less.Reads as less-reads
 
--- src/lib.rt:323:13
 unfolded-count-requires : tie.Need-unfolded-count-requires
 unfolded-count-requires c κs = search needs
 
--- src/lib.rt:325:13
 less-requires : tie.Need-less-requires
 less-requires c κs = search needs
 
--- src/lib.rt:325:13
 returns : tie.Need-returns
 returns c = search (needs, by-level-folded)
 
--- src/lib.rt:319:5
 returns-2 : tie.Need-returns-2
 returns-2 c = search (needs, by-level)
 

@@ -2,31 +2,22 @@ use Rattle.indentation.proofs.Laws.{by-last, by-last-none}
 use borrow.Author.Needs.{needs}
 use Rattle.indentation.proofs.Indentation.last_previous.Statement.{statement}
 use Rattle.indentation.proofs.Indentation.last_previous.Tie as tie
-use Rattle.indentation.proofs.Indentation.last_previous.Reads as reads
-use Rattle.indentation.proofs.Indentation.last_previous.Lts as lts
-use Rattle.indentation.proofs.no_previous.Reads as no-previous-reads
 
--- src/lib.rt:258:13
 no-previous-requires : tie.Need-no-previous-requires
 no-previous-requires c κs = search needs
 
--- src/lib.rt:258:13
 returns : tie.Need-returns
 returns c = search (needs, by-last-none)
 
--- src/lib.rt:260:23
 sub-result : tie.Need-sub-result
 sub-result c = search needs
 
--- src/lib.rt:260:9
 mul-result : tie.Need-mul-result
 mul-result c = search needs
 
--- src/lib.rt:260:9
 element-copy-out-result : tie.Need-element-copy-out-result
 element-copy-out-result c = search needs
 
--- src/lib.rt:252:5
 returns-2 : tie.Need-returns-2
 returns-2 c = search (needs, by-last)
 

@@ -2,15 +2,10 @@ use Rattle.indentation.proofs.Laws.{by-new}
 use borrow.Author.Needs.{needs}
 use Rattle.indentation.proofs.Indentation.new.Statement.{statement}
 use Rattle.indentation.proofs.Indentation.new.Tie as tie
-use Rattle.indentation.proofs.Indentation.new.Reads as reads
-use Rattle.indentation.proofs.Indentation.new.Lts as lts
-use Rattle.indentation.proofs.no_previous.Reads as no-previous-reads
 
--- src/lib.rt:108:13
 no-previous-requires : tie.Need-no-previous-requires
 no-previous-requires c κs = search needs
 
--- src/lib.rt:105:5
 returns : tie.Need-returns
 returns c = by-new (c .no-previous .result) (c .no-previous .ensures)
 

@@ -3,20 +3,14 @@ use Rattle.indentation.proofs.Laws.{by-no-span, by-span-told}
 use borrow.Author.Needs.{needs}
 use Rattle.indentation.proofs.Indentation.previous_top_level_reserved.Statement.{statement}
 use Rattle.indentation.proofs.Indentation.previous_top_level_reserved.Tie as tie
-use Rattle.indentation.proofs.Indentation.previous_top_level_reserved.Reads as reads
-use Rattle.indentation.proofs.Indentation.previous_top_level_reserved.Lts as lts
-use Rattle.indentation.proofs.Indentation.last_previous.Reads as last-previous-reads
 
--- src/lib.rt:279:13
 last-previous-requires : tie.Need-last-previous-requires
 last-previous-requires c κs = search needs
 
--- src/lib.rt:282:13
 returns : tie.Need-returns
 unfolding spanIn
 returns c = search (needs, by-span-told)
 
--- src/lib.rt:275:5
 returns-2 : tie.Need-returns-2
 unfolding spanIn
 returns-2 c = search (needs, by-no-span)

@@ -2,55 +2,40 @@ use Rattle.indentation.proofs.Laws.{by-first-top-level, by-next-top-lev
 use borrow.Author.Needs.{needs}
 use Rattle.indentation.proofs.Indentation.set_previous_top_level.Statement.{statement}
 use Rattle.indentation.proofs.Indentation.set_previous_top_level.Tie as tie
-use Rattle.indentation.proofs.Indentation.set_previous_top_level.Reads as reads
-use Rattle.indentation.proofs.Indentation.set_previous_top_level.Lts as lts
-use Rattle.indentation.proofs.top_level_after.Reads as top-level-after-reads
 
--- src/lib.rt:243:48
 add-top-level-after : tie.Need-add-top-level-after
 add-top-level-after c = search needs
 
--- src/lib.rt:243:32
 top-level-after-requires : tie.Need-top-level-after-requires
 top-level-after-requires c κs = search needs
 
--- src/lib.rt:243:13
 element-set-from-self : tie.Need-element-set-from-self
 element-set-from-self c = search needs
 
--- src/lib.rt:245:13
 returns : tie.Need-returns
 returns c = search (needs, by-first-top-level)
 
--- src/lib.rt:247:34
 sub-last : tie.Need-sub-last
 sub-last c = search needs
 
--- src/lib.rt:247:20
 mul-last : tie.Need-mul-last
 mul-last c = search needs
 
--- src/lib.rt:247:20
 element-copy-out-last : tie.Need-element-copy-out-last
 element-copy-out-last c = search needs
 
--- src/lib.rt:248:32
 top-level-after-requires-2 : tie.Need-top-level-after-requires-2
 top-level-after-requires-2 c κs = search needs
 
--- src/lib.rt:248:23
 sub-t12 : tie.Need-sub-t12
 sub-t12 c = search needs
 
--- src/lib.rt:248:9
 mul-t13 : tie.Need-mul-t13
 mul-t13 c = search needs
 
--- src/lib.rt:248:9
 element-set-from-self-2 : tie.Need-element-set-from-self-2
 element-set-from-self-2 c = search needs
 
--- src/lib.rt:236:5
 returns-2 : tie.Need-returns-2
 returns-2 c = search (needs, by-next-top-level)
 

@@ -2,26 +2,19 @@ use borrow.Author.Needs.{needs}
 use Rattle.indentation.proofs.Laws.{by-span, by-span-none}
 use Rattle.indentation.proofs.Indentation.span.Statement.{statement}
 use Rattle.indentation.proofs.Indentation.span.Tie as tie
-use Rattle.indentation.proofs.Indentation.span.Reads as reads
-use Rattle.indentation.proofs.Indentation.span.Lts as lts
 
--- src/lib.rt:293:13
 returns : tie.Need-returns
 returns c = search (needs, by-span-none)
 
--- src/lib.rt:295:20
 sub-result : tie.Need-sub-result
 sub-result c = search needs
 
--- src/lib.rt:295:9
 mul-result : tie.Need-mul-result
 mul-result c = search needs
 
--- src/lib.rt:295:9
 element-copy-out-result : tie.Need-element-copy-out-result
 element-copy-out-result c = search needs
 
--- src/lib.rt:287:5
 returns-2 : tie.Need-returns-2
 returns-2 c = search (needs, by-span)
 

@@ -1,7 +1,7 @@
 use borrow.Author.Needs.{needs}
-use mathlib.Core.Path.{_≡_, refl, sym, ap, _∙_}
+use mathlib.Core.Path.{_≡_, _∙_}
 use mathlib.Core.List.{map}
-use Prim.Native.Nat.{ℕ, _+_, _-_, _≤_, _<_}
+use Prim.Native.Nat.{_-_, _≤_}
 use native.Mathlib.Omega.{arith}
 use Rattle.rules.specs.Indentation.{unfolded}
 use Rattle.stacks.specs.Stack.{stack}
@@ -9,9 +9,6 @@ use Rattle.indentation.specs.Of.{typeOf, typesOf}
 use Rattle.indentation.proofs.Laws.{counts-on}
 use Rattle.indentation.proofs.Indentation.unfolded_count.Statement.{statement}
 use Rattle.indentation.proofs.Indentation.unfolded_count.Tie as tie
-use Rattle.indentation.proofs.Indentation.unfolded_count.Reads as reads
-use Rattle.indentation.proofs.Indentation.unfolded_count.Lts as lts
-use Rattle.indentation.proofs.weight.Reads as weight-reads
 
 abbrev Inv-loop : tie.InvT-loop
 Inv-loop self n i₀ count₀ i count = (i ≤ n) × (count ≤ i) × (count ≡ unfolded (map typeOf (stack 0 i (self .kinds))))
@@ -19,36 +16,28 @@ Inv-loop self n i₀ count₀ i count = (i ≤ n) × (count ≤ i) × (count ≡
 abbrev μ-loop : tie.MeasureT-loop
 μ-loop self n i₀ count₀ i count = n - i
 
--- src/lib.rt:312:9
 loop-holds : tie.Need-loop-holds Inv-loop μ-loop
 unfolding unfolded
 loop-holds c = search needs
 
--- src/lib.rt:313:29
 element-copy-out-weight : tie.Need-element-copy-out-weight Inv-loop μ-loop
 element-copy-out-weight c = search needs
 
--- src/lib.rt:313:22
 weight-requires : tie.Need-weight-requires Inv-loop μ-loop
 weight-requires c κs = search needs
 
--- src/lib.rt:313:13
 add-count : tie.Need-add-count Inv-loop μ-loop
 add-count c = omega arith
 
--- src/lib.rt:314:13
 add-i : tie.Need-add-i Inv-loop μ-loop
 add-i c = omega arith
 
--- src/lib.rt:312:9
 loop-less : tie.Need-loop-less Inv-loop μ-loop
 loop-less c = omega arith
 
--- src/lib.rt:312:9
 loop-again : tie.Need-loop-again Inv-loop μ-loop
 loop-again c = search (needs, counts-on)
 
--- src/lib.rt:305:5
 returns : tie.Need-returns Inv-loop μ-loop
 unfolding typesOf
 returns c = let e : c .before .loop .i ≡ c .before .before .args .t1 .nkinds = omega arith in

@@ -1,0 +1,2 @@
+pub mod Of
+pub mod Unique
