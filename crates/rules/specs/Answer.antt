@@ -44,7 +44,7 @@ finish (refused n) = refusal n 0
 unfoldable pub formatFrom : Env → List Token → List Token → Switch → State → Answer
 formatFrom e before [] w s = finish (s .text)
 formatFrom e before (t ∷ after) w s =
-    let turn = turnOf w t in
+    let turn = turnOf w (t .kind) (t .value) in
     let s′ = takenAs turn e (record { before = before; token = t; after = after }) s in
     let rest = formatFrom e (t ∷ before) after (switchAfter turn w) s′ in
     unlessRefused (s′ .text) (length before) rest

@@ -5,11 +5,12 @@ use mathlib.Core.List.{List, [], _∷_}
 use Prim.Native.Nat.{ℕ, suc}
 use lib.Dec.{eqb}
 use lib.ListN.{getD}
+use Rattle.rules.specs.declared.TokenKind.{TokenKind}
 use Rattle.rules.specs.declared.TokenKind.the-variants as kind
 use Rattle.rules.specs.declared.Turn.{Turn}
 use Rattle.rules.specs.declared.Turn.the-variants as turn
 use Rattle.rules.specs.Base.{if_then_else_, first}
-use Rattle.rules.specs.Tokens.{Token, oneOf}
+use Rattle.rules.specs.Tokens.{oneOf}
 
 -- on a byte a state stays, goes on to the next, or answers that the comment switches off (true) or on
 pub data Move : Type 0 where
@@ -74,16 +75,17 @@ pub record Switch : Type 0 where
   pub enabled : Bool
   pub dropNext : Bool
 
-unfoldable pub switchIn : Token → Option Bool
-switchIn t = if oneOf (kind.LineComment ∷ kind.BlockComment ∷ []) (t .kind) then checkFmtOff (t .value) else none
+-- of a token of the kind k and the value v: only comments switch
+unfoldable pub switchIn : TokenKind → List ℕ → Option Bool
+switchIn k v = if oneOf (kind.LineComment ∷ kind.BlockComment ∷ []) k then checkFmtOff v else none
 
 unfoldable pub turnBy : Bool → Option Bool → Turn
 turnBy enabled (some off) = turn.Switches off
 turnBy true none = turn.LaidOut
 turnBy false none = turn.Copied
 
-unfoldable pub turnOf : Switch → Token → Turn
-turnOf w t = if w .dropNext then turn.Dropped else turnBy (w .enabled) (switchIn t)
+unfoldable pub turnOf : Switch → TokenKind → List ℕ → Turn
+turnOf w k v = if w .dropNext then turn.Dropped else turnBy (w .enabled) (switchIn k v)
 
 -- the switch after a token that was taken so
 unfoldable pub switchAfter : Turn → Switch → Switch
