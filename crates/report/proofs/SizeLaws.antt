@@ -1,0 +1,98 @@
+-- Laws of lines and width, and of the report. Assumes nothing.
+use mathlib.Core.Path.{_≡_, refl, sym, ap, _∙_}
+use mathlib.Core.Bool.{Bool, true, false}
+use mathlib.Core.List.{List, [], _∷_}
+use Prim.Native.Nat.{ℕ, suc, _+_, _-_, _≤_, _<_, max}
+use native.Mathlib.Numerals.{add-one}
+use native.Mathlib.Omega.{arith}
+use lib.Dec.{eqb}
+use lib.ListN.{length, take, drop, getD, replicate}
+use lib.Seq.{length-take-le, take-append-seam}
+use borrow.Author.Tests.{eq-eqb, ne-eqb}
+use Rattle.rules.specs.Base.{if_then_else_}
+use Rattle.rules.specs.Text.{Text, fits, refused, isWhite, trimStart, trimmed, change, cutWhite, lineFeeds, lines, widthFrom, width}
+use Rattle.text.specs.declared.Text.{Text as Code}
+use Rattle.text.specs.Held.{textOf, codeOf, bytesOf, Laid}
+use Rattle.text.proofs.HeldLaws.{relaid, onward}
+use Rattle.report.specs.declared.Size.{Size}
+use Rattle.report.specs.declared.Finished.{Finished}
+use Rattle.report.specs.Finished.{sizeOf, finished}
+use Rattle.report.proofs.TrimLaws.{take-next, take-end}
+
+width-by : (at best x : ℕ) (xs : List ℕ) (b : Bool) → eqb x 10 ≡ b → widthFrom at best (x ∷ xs) ≡ widthFrom (if b then 0 else suc at) (if b then max at best else best) xs
+width-by at best x xs b e = ap (λ (a : Bool). widthFrom (if a then 0 else suc at) (if a then max at best else best) xs) e
+
+module _ (d : List ℕ) (len i : ℕ) (h : len ≤ length d) where
+  module _ (c : i < len) where
+    pub by-line-fed : (n : ℕ) → getD d i 0 ≡ 10 → n + lineFeeds (drop i (take len d)) ≡ lineFeeds (take len d) + 1
+        → n + 1 + lineFeeds (drop (i + 1) (take len d)) ≡ lineFeeds (take len d) + 1
+    by-line-fed n z e =
+        let k : lineFeeds (drop i (take len d)) ≡ suc (lineFeeds (drop (i + 1) (take len d))) = rw (take-next d len i h c, eq-eqb (getD d i 0) 10 z) in
+        omega arith
+
+    pub by-line-on : (n : ℕ) → (getD d i 0 ≡ 10 → ⊥) → n + lineFeeds (drop i (take len d)) ≡ lineFeeds (take len d) + 1
+        → n + lineFeeds (drop (i + 1) (take len d)) ≡ lineFeeds (take len d) + 1
+    by-line-on n z e =
+        let k : lineFeeds (drop i (take len d)) ≡ lineFeeds (drop (i + 1) (take len d)) = rw (take-next d len i h c, ne-eqb (getD d i 0) 10 z) in
+        omega arith
+
+    pub by-width-fed : (at best m : ℕ) → getD d i 0 ≡ 10 → m ≡ max at best → widthFrom at best (drop i (take len d)) ≡ width (take len d)
+        → widthFrom 0 m (drop (i + 1) (take len d)) ≡ width (take len d)
+    by-width-fed at best m z f e =
+        let k : widthFrom at best (drop i (take len d)) ≡ widthFrom 0 (max at best) (drop (i + 1) (take len d)) =
+        ap (widthFrom at best) (take-next d len i h c) ∙ width-by at best (getD d i 0) (drop (i + 1) (take len d)) true (eq-eqb (getD d i 0) 10 z) in
+        ap (λ (a : ℕ). widthFrom 0 a (drop (i + 1) (take len d))) f ∙ sym k ∙ e
+
+    pub by-width-on : (at best : ℕ) → (getD d i 0 ≡ 10 → ⊥) → widthFrom at best (drop i (take len d)) ≡ width (take len d)
+        → widthFrom (at + 1) best (drop (i + 1) (take len d)) ≡ width (take len d)
+    by-width-on at best z e =
+        let k : widthFrom at best (drop i (take len d)) ≡ widthFrom (suc at) best (drop (i + 1) (take len d)) =
+        ap (widthFrom at best) (take-next d len i h c) ∙ width-by at best (getD d i 0) (drop (i + 1) (take len d)) false (ne-eqb (getD d i 0) 10 z) in
+        ap (λ (a : ℕ). widthFrom a best (drop (i + 1) (take len d))) (add-one at) ∙ sym k ∙ e
+
+size : ℕ → ℕ → Size
+size n m = record { lines = n; width = m }
+
+lines-some : (v : List ℕ) → 0 < length v → lines v ≡ lineFeeds v + 1
+lines-some [] h = absurd (omega arith)
+lines-some (x ∷ xs) h = sym (add-one _)
+
+pub by-size : (d : List ℕ) (len i n at best m : ℕ) → len ≤ length d → len ≤ i → (len ≡ 0 → ⊥) → n + lineFeeds (drop i (take len d)) ≡ lineFeeds (take len d) + 1
+    → widthFrom at best (drop i (take len d)) ≡ width (take len d) → m ≡ max at best → record { lines = n; width = m } ≡ sizeOf (take len d)
+unfolding size
+by-size d len i n at best m h c z e f g =
+    let l = length-take-le len d h in
+    let k : lineFeeds (drop i (take len d)) ≡ 0 = rw (take-end d len i h c) in
+    let o : n ≡ lines (take len d) = sym (lines-some (take len d) (omega arith) ∙ sym e ∙ omega arith) in
+    let q : max at best ≡ widthFrom at best (drop i (take len d)) = rw (take-end d len i h c) in
+    ap (λ (a : ℕ). size a m) o ∙ ap (size (lines (take len d))) (g ∙ q ∙ f)
+
+pub by-no-size : (d : List ℕ) (len : ℕ) → len ≡ 0 → record { lines = 0; width = 0 } ≡ sizeOf (take len d)
+by-no-size d len z = rw z
+
+-- ---- the report
+
+done : ℕ → ℕ → List ℕ → Finished
+done f n v = record { fault = f; len = n; lines = lines v; width = width v }
+
+reported : {cap : ℕ} {t : Code} {d : List ℕ} (w : Text) → Laid cap (change trimmed w) t d → done (t .fault) (t .len) (take (t .len) d) ≡ finished w
+unfolding done finished codeOf bytesOf
+reported {cap} {t} {d} (fits b) p =
+    rw (p .code, p .bytes) (ap (done 0 (length (trimmed b))) (take-append-seam (trimmed b) (replicate (cap - length (trimmed b)) 0)))
+reported (refused n) p = rw (p .code)
+
+pub both-ends : (w : Text) → change (trimStart isWhite) (cutWhite w) ≡ change trimmed w
+unfolding trimmed
+both-ends (fits b) = refl
+both-ends (refused n) = refl
+
+module _ (cap : ℕ) (w : Text) (t₁ t₂ : Code) (d₁ d₂ : List ℕ) (p : Laid cap (cutWhite w) t₁ d₁) (q : Laid (length d₁) (change (trimStart isWhite) (textOf t₁ d₁)) t₂ d₂) where
+  pub trims : Laid cap (change trimmed w) t₂ d₂
+  trims = relaid refl (both-ends w) (onward (λ n. change (trimStart isWhite)) p q)
+
+  pub by-finished : (s : Size) → s ≡ sizeOf (take (t₂ .len) d₂) → record { fault = t₂ .fault; len = t₂ .len; lines = s .lines; width = s .width } ≡ finished w
+  unfolding done
+  by-finished s e = rw e (reported w trims)
+
+  pub by-trimmed : d₂ ≡ bytesOf cap (change trimmed w)
+  by-trimmed = trims .bytes

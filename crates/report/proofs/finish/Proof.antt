@@ -1,0 +1,29 @@
+use borrow.Author.Needs.{needs}
+use Rattle.report.proofs.SizeLaws.{by-finished, by-trimmed}
+use Rattle.report.proofs.finish.Statement.{statement}
+use Rattle.report.proofs.finish.Tie as tie
+
+trim-all-spaces-end-requires : tie.Need-trim-all-spaces-end-requires
+trim-all-spaces-end-requires c κs = search needs
+
+trim-start-requires : tie.Need-trim-start-requires
+trim-start-requires c κs = search needs
+
+lines-width-requires : tie.Need-lines-width-requires
+lines-width-requires c κs = search needs
+
+same-length : tie.Need-same-length
+same-length c = search needs
+
+returns : tie.Need-returns
+returns c = search (needs, by-finished, by-trimmed)
+
+pub finish-spec : {M : Type 1} → statement M
+finish-spec =
+    tie.close
+    (tie.spec
+    trim-all-spaces-end-requires
+    trim-start-requires
+    lines-width-requires
+    same-length
+    returns)

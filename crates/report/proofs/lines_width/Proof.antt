@@ -1,0 +1,75 @@
+use borrow.Author.Needs.{needs}
+use mathlib.Core.Path.{_≡_}
+use Prim.Native.Nat.{_+_, _-_, _≤_}
+use lib.ListN.{take, drop}
+use Rattle.rules.specs.Text.{lineFeeds, widthFrom, width}
+use Rattle.report.proofs.SizeLaws.{by-line-fed, by-line-on, by-width-fed, by-width-on, by-size, by-no-size}
+use Rattle.report.proofs.lines_width.Statement.{statement}
+use Rattle.report.proofs.lines_width.Tie as tie
+
+abbrev Inv-loop : tie.InvT-loop
+Inv-loop text len lines₀ at₀ best₀ i₀ lines at best i =
+    (i ≤ len) × (lines ≤ i + 1) × (at ≤ i) × (lines + lineFeeds (drop i (take len text)) ≡ lineFeeds (take len text) + 1)
+    × (widthFrom at best (drop i (take len text)) ≡ width (take len text))
+
+abbrev μ-loop : tie.MeasureT-loop
+μ-loop text len lines₀ at₀ best₀ i₀ lines at best i = len - i
+
+returns : tie.Need-returns Inv-loop μ-loop
+returns c = search (needs, by-no-size)
+
+loop-holds : tie.Need-loop-holds Inv-loop μ-loop
+loop-holds c = search needs
+
+shared-slice-read-b : tie.Need-shared-slice-read-b Inv-loop μ-loop
+shared-slice-read-b c = search needs
+
+add-i : tie.Need-add-i Inv-loop μ-loop
+add-i c = search needs
+
+add-at : tie.Need-add-at Inv-loop μ-loop
+add-at c = search needs
+
+loop-less : tie.Need-loop-less Inv-loop μ-loop
+loop-less c = search needs
+
+loop-again : tie.Need-loop-again Inv-loop μ-loop
+loop-again c = search (needs, by-line-on, by-width-on)
+
+add-lines : tie.Need-add-lines Inv-loop μ-loop
+add-lines c = search needs
+
+larger-requires : tie.Need-larger-requires Inv-loop μ-loop
+larger-requires c κs = search needs
+
+loop-less-2 : tie.Need-loop-less-2 Inv-loop μ-loop
+loop-less-2 c = search needs
+
+loop-again-2 : tie.Need-loop-again-2 Inv-loop μ-loop
+loop-again-2 c = search (needs, by-line-fed, by-width-fed)
+
+larger-requires-2 : tie.Need-larger-requires-2 Inv-loop μ-loop
+larger-requires-2 c κs = search needs
+
+returns-2 : tie.Need-returns-2 Inv-loop μ-loop
+returns-2 c = search (needs, by-size)
+
+pub lines-width-spec : {M : Type 1} → statement M
+lines-width-spec =
+    tie.close
+    (tie.spec
+    Inv-loop
+    μ-loop
+    returns
+    loop-holds
+    shared-slice-read-b
+    add-i
+    add-at
+    loop-less
+    loop-again
+    add-lines
+    larger-requires
+    loop-less-2
+    loop-again-2
+    larger-requires-2
+    returns-2)

@@ -1,0 +1,123 @@
+// The end of a layout: the text is trimmed at both ends, and its lines and width are counted.
+use ascii::is_white;
+use text::Text;
+use text::fill;
+use text::trim_all_spaces_end;
+ghost use mathlib.Core.Path.{_≡_};
+ghost use Prim.Native.Nat.{_+_, _≤_, max};
+ghost use lib.ListN.{length, take, drop};
+ghost use Rattle.rules.specs.Text.{isWhite, trimStart, trimmed, change};
+ghost use Rattle.ascii.specs.Part.{part};
+ghost use Rattle.text.specs.Put.{put};
+ghost use Rattle.text.specs.Held.{textOf, Held, Laid, bytesOf};
+ghost use Rattle.report.specs.Finished.{sizeOf, finished};
+
+pub struct Size {
+    pub lines: usize,
+    pub width: usize,
+}
+
+pub struct Finished {
+    pub fault: u32,
+    pub len: usize,
+    pub lines: usize,
+    pub width: usize,
+}
+
+// ---- the trim at the start
+
+fn white_start(text: &[u8], len: usize) -> usize
+    requires { ⌜ len ≤ length (now text) ⌝ }
+    ensures { λ r. ⌜ (r ≤ len) × (drop r (take len (now (text .entry))) ≡ trimStart isWhite (take len (now (text .entry)))) ⌝ }
+{
+    let mut i = 0;
+    while i < len {
+        if !is_white(text[i]) {
+            return i;
+        }
+        i += 1;
+    }
+    i
+}
+
+// In place, from the front: a byte is read before it is written over.
+fn move_down(text: &mut [u8], from: usize, n: usize)
+    requires { ⌜ from + n ≤ length (now text) ⌝ }
+    ensures { λ r. ⌜ now (text .exit) ≡ put (now (text .entry)) 0 (part (now (text .entry)) from n) ⌝ }
+{
+    let mut i = 0;
+    while i < n {
+        text[i] = text[from + i];
+        i += 1;
+    }
+}
+
+fn trim_start(text: &mut [u8], t: Text) -> Text
+    requires { ⌜ Held t (now text) ⌝ }
+    ensures { λ r. ⌜ Laid (length (now (text .entry))) (change (trimStart isWhite) (textOf t (now (text .entry)))) r (now (text .exit)) ⌝ }
+{
+    let len = t.len;
+    let from = white_start(text, len);
+    let left = len - from;
+    move_down(text, from, left);
+    fill(text, left, 0, from);
+    Text {
+        len: left,
+        fault: t.fault,
+    }
+}
+
+// ---- lines and width
+
+fn larger(a: usize, b: usize) -> usize
+    ensures { λ r. ⌜ r ≡ max a b ⌝ }
+{
+    if a < b { b } else { a }
+}
+
+pub fn lines_width(text: &[u8], len: usize) -> Size
+    requires { ⌜ len ≤ length (now text) ⌝ }
+    ensures { λ r. ⌜ r ≡ sizeOf (take len (now (text .entry))) ⌝ }
+{
+    if len == 0 {
+        return Size { lines: 0, width: 0 };
+    }
+    let mut lines = 1;
+    let mut at = 0;
+    let mut best = 0;
+    let mut i = 0;
+    while i < len {
+        let b = text[i];
+        i += 1;
+        if b != 10 {
+            at += 1;
+            continue;
+        }
+        lines += 1;
+        best = larger(at, best);
+        at = 0;
+    }
+    Size {
+        lines,
+        width: larger(at, best),
+    }
+}
+
+// ---- the whole
+
+pub fn finish(text: &mut [u8], t: Text) -> Finished
+    requires { ⌜ Held t (now text) ⌝ }
+    ensures { λ r. ⌜ r ≡ finished (textOf t (now (text .entry))) ⌝ }
+    ensures { λ r. ⌜ now (text .exit) ≡ bytesOf (length (now (text .entry))) (change trimmed (textOf t (now (text .entry)))) ⌝ }
+{
+    let cut = trim_all_spaces_end(text, t);
+    let done = trim_start(text, cut);
+    let len = done.len;
+    let size = lines_width(text, len);
+    Finished {
+        fault: done.fault,
+        len,
+        lines: size.lines,
+        width: size.width,
+    }
+}

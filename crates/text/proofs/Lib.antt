@@ -1,0 +1,6 @@
+pub mod PutLaws
+pub mod HeldLaws
+pub mod AppendLaws
+pub mod CutLaws
+pub mod LineLaws
+pub mod WorkLaws

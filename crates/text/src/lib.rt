@@ -1,0 +1,233 @@
+// The working text: a lent buffer that holds the text and then zeros, and its length; or, after a refusal, zeros alone and the refusal's number.
+// A refused text is handed on by every function here, so callers go straight on and look at the fault once.
+// A text is handed on field by field: as a whole it would be copied through memory.
+use ascii::is_blank;
+use ascii::is_white;
+use rules::Indent;
+ghost use mathlib.Core.Path.{_≡_};
+ghost use Prim.Native.Nat.{_+_, _-_, _≤_, _<_};
+ghost use mathlib.Core.List.{_++_, _∷_, []};
+ghost use lib.ListN.{length, take, replicate};
+ghost use lib.Dec.{eqb};
+ghost use Rattle.rules.specs.Text.{trimEnd, lastOr, indentOf, change, append, lineFeed, fits, refuse as refusedWith, cutBlanks, cutWhite, newLine};
+ghost use Rattle.ascii.specs.Part.{part};
+ghost use Rattle.text.specs.Put.{put};
+ghost use Rattle.text.specs.Held.{textOf, Held, Laid, cutBytes};
+
+pub struct Text {
+    pub len: usize,
+    pub fault: u32,
+}
+
+// ---- bytes of the buffer
+
+pub fn fill(text: &mut [u8], at: usize, b: u8, count: usize)
+    requires { ⌜ at + count ≤ length (now text) ⌝ }
+    ensures { λ r. ⌜ now (text .exit) ≡ put (now (text .entry)) at (replicate count b) ⌝ }
+{
+    let mut i = 0;
+    while i < count {
+        text[at + i] = b;
+        i += 1;
+    }
+}
+
+fn copy(text: &mut [u8], at: usize, src: &[u8], start: usize, n: usize)
+    requires { ⌜ (at + n ≤ length (now text)) × (start + n ≤ length (now src)) ⌝ }
+    ensures { λ r. ⌜ now (text .exit) ≡ put (now (text .entry)) at (part (now (src .entry)) start n) ⌝ }
+{
+    let mut i = 0;
+    while i < n {
+        text[at + i] = src[start + i];
+        i += 1;
+    }
+}
+
+fn ends_line(text: &[u8], len: usize) -> bool
+    requires { ⌜ len ≤ length (now text) ⌝ }
+    ensures { λ r. ⌜ r ≡ eqb (lastOr 0 (take len (now (text .entry)))) 10 ⌝ }
+{
+    if len == 0 {
+        return false;
+    }
+    text[len - 1] == 10
+}
+
+// ---- begin, refuse, append
+
+pub fn begin(text: &mut [u8]) -> Text
+    ensures { λ r. ⌜ Laid (length (now (text .entry))) (fits []) r (now (text .exit)) ⌝ }
+{
+    let cap = text.len();
+    fill(text, 0, 0, cap);
+    Text { len: 0, fault: 0 }
+}
+
+pub fn refuse(text: &mut [u8], t: Text, n: u32) -> Text
+    requires { ⌜ Held t (now text) ⌝ }
+    requires { ⌜ 0 < n ⌝ }
+    ensures { λ r. ⌜ Laid (length (now (text .entry))) (refusedWith n (textOf t (now (text .entry)))) r (now (text .exit)) ⌝ }
+{
+    let fault = t.fault;
+    if fault != 0 {
+        return Text { len: 0, fault };
+    }
+    let cap = text.len();
+    fill(text, 0, 0, cap);
+    Text { len: 0, fault: n }
+}
+
+pub fn append_byte(text: &mut [u8], t: Text, b: u8) -> Text
+    requires { ⌜ Held t (now text) ⌝ }
+    ensures { λ r. ⌜ Laid (length (now (text .entry))) (append (length (now (text .entry))) (b ∷ []) (textOf t (now (text .entry)))) r (now (text .exit)) ⌝ }
+{
+    let fault = t.fault;
+    if fault != 0 {
+        return Text { len: 0, fault };
+    }
+    let len = t.len;
+    if text.len() - len < 1 {
+        return refuse(text, t, 9);
+    }
+    text[len] = b;
+    Text {
+        len: len + 1,
+        fault: 0,
+    }
+}
+
+pub fn append_repeat(text: &mut [u8], t: Text, b: u8, count: usize) -> Text
+    requires { ⌜ Held t (now text) ⌝ }
+    ensures { λ r. ⌜ Laid (length (now (text .entry))) (append (length (now (text .entry))) (replicate count b) (textOf t (now (text .entry)))) r (now (text .exit)) ⌝ }
+{
+    let fault = t.fault;
+    if fault != 0 {
+        return Text { len: 0, fault };
+    }
+    let len = t.len;
+    if text.len() - len < count {
+        return refuse(text, t, 9);
+    }
+    fill(text, len, b, count);
+    Text {
+        len: len + count,
+        fault: 0,
+    }
+}
+
+pub fn append_part(text: &mut [u8], t: Text, src: &[u8], start: usize, n: usize) -> Text
+    requires { ⌜ Held t (now text) ⌝ }
+    requires { ⌜ start + n ≤ length (now src) ⌝ }
+    ensures { λ r. ⌜ Laid (length (now (text .entry))) (append (length (now (text .entry))) (part (now (src .entry)) start n) (textOf t (now (text .entry)))) r (now (text .exit)) ⌝ }
+{
+    let fault = t.fault;
+    if fault != 0 {
+        return Text { len: 0, fault };
+    }
+    let len = t.len;
+    if text.len() - len < n {
+        return refuse(text, t, 9);
+    }
+    copy(text, len, src, start, n);
+    Text {
+        len: len + n,
+        fault: 0,
+    }
+}
+
+fn wide(b: u8) -> usize
+    ensures { λ r. ⌜ (r ≡ b) × (r < 256) ⌝ }
+{
+    b as usize
+}
+
+pub fn append_indent(text: &mut [u8], t: Text, indent: Indent, level: usize) -> Text
+    requires { ⌜ Held t (now text) ⌝ }
+    requires { ⌜ level ≤ 128 ⌝ }
+    ensures { λ r. ⌜ Laid (length (now (text .entry))) (append (length (now (text .entry))) (indentOf indent level) (textOf t (now (text .entry)))) r (now (text .exit)) ⌝ }
+{
+    match indent {
+        Indent::Spaces(n) => append_repeat(text, t, 32, level * wide(n)),
+        Indent::Tabs => append_repeat(text, t, 9, level),
+    }
+}
+
+// ---- cuts
+
+fn is_cut(white: bool, b: u8) -> bool
+    ensures { λ r. ⌜ r ≡ cutBytes white b ⌝ }
+{
+    if white {
+        return is_white(b);
+    }
+    is_blank(b)
+}
+
+// A cut is short, so it goes a byte at a time and zeroes as it goes.
+fn trim_end(text: &mut [u8], t: Text, white: bool) -> Text
+    requires { ⌜ Held t (now text) ⌝ }
+    ensures { λ r. ⌜ Laid (length (now (text .entry))) (change (trimEnd (cutBytes white)) (textOf t (now (text .entry)))) r (now (text .exit)) ⌝ }
+{
+    let fault = t.fault;
+    let mut len = t.len;
+    while 0 < len {
+        let last = len - 1;
+        if !is_cut(white, text[last]) {
+            return Text { len, fault };
+        }
+        text[last] = 0;
+        len = last;
+    }
+    Text { len, fault }
+}
+
+pub fn trim_spaces_end(text: &mut [u8], t: Text) -> Text
+    requires { ⌜ Held t (now text) ⌝ }
+    ensures { λ r. ⌜ Laid (length (now (text .entry))) (cutBlanks (textOf t (now (text .entry)))) r (now (text .exit)) ⌝ }
+{
+    trim_end(text, t, false)
+}
+
+pub fn trim_all_spaces_end(text: &mut [u8], t: Text) -> Text
+    requires { ⌜ Held t (now text) ⌝ }
+    ensures { λ r. ⌜ Laid (length (now (text .entry))) (cutWhite (textOf t (now (text .entry)))) r (now (text .exit)) ⌝ }
+{
+    trim_end(text, t, true)
+}
+
+// ---- lines
+
+pub fn line_feed(text: &mut [u8], t: Text) -> Text
+    requires { ⌜ Held t (now text) ⌝ }
+    ensures { λ r. ⌜ Laid (length (now (text .entry))) (lineFeed (length (now (text .entry))) (textOf t (now (text .entry)))) r (now (text .exit)) ⌝ }
+{
+    let len = t.len;
+    if ends_line(text, len) {
+        return Text {
+            len,
+            fault: t.fault,
+        };
+    }
+    append_byte(text, t, 10)
+}
+
+pub fn one_blank(text: &mut [u8], t: Text) -> Text
+    requires { ⌜ Held t (now text) ⌝ }
+    ensures { λ r. ⌜ Laid (length (now (text .entry))) (append (length (now (text .entry))) (32 ∷ []) (cutBlanks (textOf t (now (text .entry))))) r (now (text .exit)) ⌝ }
+{
+    let cut = trim_spaces_end(text, t);
+    append_byte(text, cut, 32)
+}
+
+pub fn new_line(text: &mut [u8], t: Text, inline: bool, indent: Indent, level: usize) -> Text
+    requires { ⌜ Held t (now text) ⌝ }
+    requires { ⌜ level ≤ 128 ⌝ }
+    ensures { λ r. ⌜ Laid (length (now (text .entry))) (newLine (length (now (text .entry))) inline (indentOf indent level) (textOf t (now (text .entry)))) r (now (text .exit)) ⌝ }
+{
+    if inline {
+        return one_blank(text, t);
+    }
+    let cut = trim_spaces_end(text, t);
+    let fed = line_feed(text, cut);
+    append_indent(text, fed, indent, level)
+}

@@ -1,0 +1,163 @@
+// Words as the text has them: in a case, with white joined to one blank, and a block comment with the present indent.
+use ascii::in_case;
+use ascii::is_blank;
+use ascii::is_white;
+use rules::Case;
+use rules::Indent;
+use text::Text;
+use text::append_byte;
+use text::append_indent;
+use text::refuse;
+ghost use mathlib.Core.Path.{_≡_};
+ghost use Prim.Native.Nat.{_+_, _≤_};
+ghost use lib.ListN.{length};
+ghost use Rattle.rules.specs.Text.{inCase, equalizeWhitespace, indentComment, indentOf, append};
+ghost use Rattle.ascii.specs.Part.{part};
+ghost use Rattle.text.specs.Put.{put};
+ghost use Rattle.text.specs.Held.{textOf, Held, Laid};
+ghost use Rattle.words.specs.Words.{spaced, blanks, leadAfter, leadOf};
+
+// ---- a word in a case
+
+fn copy_cased(text: &mut [u8], at: usize, src: &[u8], start: usize, n: usize, k: Case)
+    requires { ⌜ (at + n ≤ length (now text)) × (start + n ≤ length (now src)) ⌝ }
+    ensures { λ r. ⌜ now (text .exit) ≡ put (now (text .entry)) at (inCase k (part (now (src .entry)) start n)) ⌝ }
+{
+    let mut i = 0;
+    while i < n {
+        text[at + i] = in_case(k, src[start + i]);
+        i += 1;
+    }
+}
+
+pub fn append_cased(text: &mut [u8], t: Text, src: &[u8], start: usize, n: usize, k: Case) -> Text
+    requires { ⌜ Held t (now text) ⌝ }
+    requires { ⌜ start + n ≤ length (now src) ⌝ }
+    ensures { λ r. ⌜ Laid (length (now (text .entry))) (append (length (now (text .entry))) (inCase k (part (now (src .entry)) start n)) (textOf t (now (text .entry)))) r (now (text .exit)) ⌝ }
+{
+    let fault = t.fault;
+    if fault != 0 {
+        return Text { len: 0, fault };
+    }
+    let len = t.len;
+    if text.len() - len < n {
+        return refuse(text, t, 9);
+    }
+    copy_cased(text, len, src, start, n, k);
+    Text {
+        len: len + n,
+        fault: 0,
+    }
+}
+
+// ---- a reserved word
+
+fn append_spaced(text: &mut [u8], t: Text, gap: bool, b: u8) -> Text
+    requires { ⌜ Held t (now text) ⌝ }
+    ensures { λ r. ⌜ Laid (length (now (text .entry))) (append (length (now (text .entry))) (spaced gap b) (textOf t (now (text .entry)))) r (now (text .exit)) ⌝ }
+{
+    if gap {
+        let one = append_byte(text, t, 32);
+        return append_byte(text, one, b);
+    }
+    append_byte(text, t, b)
+}
+
+// In one pass: white before the first other byte is left out, and white after one is a gap, written as a blank before the next.
+pub fn append_reserved(
+    text: &mut [u8],
+    t: Text,
+    src: &[u8],
+    start: usize,
+    n: usize,
+    k: Case,
+) -> Text
+    requires { ⌜ Held t (now text) ⌝ }
+    requires { ⌜ start + n ≤ length (now src) ⌝ }
+    ensures { λ r. ⌜ Laid (length (now (text .entry))) (append (length (now (text .entry))) (equalizeWhitespace (inCase k (part (now (src .entry)) start n))) (textOf t (now (text .entry)))) r (now (text .exit)) ⌝ }
+{
+    let mut done = t;
+    let mut begun = false;
+    let mut gap = false;
+    let mut i = 0;
+    while i < n {
+        let b = in_case(k, src[start + i]);
+        i += 1;
+        if is_white(b) {
+            gap = begun;
+            continue;
+        }
+        done = append_spaced(text, done, gap, b);
+        begun = true;
+        gap = false;
+    }
+    done
+}
+
+// ---- a block comment
+
+fn count_blanks(src: &[u8], start: usize, n: usize) -> usize
+    requires { ⌜ start + n ≤ length (now src) ⌝ }
+    ensures { λ r. ⌜ (r ≡ blanks (part (now (src .entry)) start n)) × (r ≤ n) ⌝ }
+{
+    let mut i = 0;
+    while i < n {
+        if !is_blank(src[start + i]) {
+            return i;
+        }
+        i += 1;
+    }
+    i
+}
+
+fn lead_after(b: u8, src: &[u8], start: usize, n: usize) -> usize
+    requires { ⌜ start + n ≤ length (now src) ⌝ }
+    ensures { λ r. ⌜ (r ≡ leadAfter b (part (now (src .entry)) start n)) × (r ≤ n) ⌝ }
+{
+    if b != 10 {
+        return 0;
+    }
+    count_blanks(src, start, n)
+}
+
+fn append_lead(text: &mut [u8], t: Text, lead: usize, indent: Indent, level: usize) -> Text
+    requires { ⌜ Held t (now text) ⌝ }
+    requires { ⌜ level ≤ 128 ⌝ }
+    ensures { λ r. ⌜ Laid (length (now (text .entry))) (append (length (now (text .entry))) (leadOf lead (indentOf indent level)) (textOf t (now (text .entry)))) r (now (text .exit)) ⌝ }
+{
+    if lead == 0 {
+        return Text {
+            len: t.len,
+            fault: t.fault,
+        };
+    }
+    let indented = append_indent(text, t, indent, level);
+    append_byte(text, indented, 32)
+}
+
+pub fn append_comment(
+    text: &mut [u8],
+    t: Text,
+    src: &[u8],
+    start: usize,
+    n: usize,
+    indent: Indent,
+    level: usize,
+) -> Text
+    requires { ⌜ Held t (now text) ⌝ }
+    requires { ⌜ start + n ≤ length (now src) ⌝ }
+    requires { ⌜ level ≤ 128 ⌝ }
+    ensures { λ r. ⌜ Laid (length (now (text .entry))) (append (length (now (text .entry))) (indentComment (indentOf indent level) (part (now (src .entry)) start n)) (textOf t (now (text .entry)))) r (now (text .exit)) ⌝ }
+{
+    let mut done = t;
+    let mut i = 0;
+    while i < n {
+        let b = src[start + i];
+        let next = i + 1;
+        let lead = lead_after(b, src, start + next, n - next);
+        let one = append_byte(text, done, b);
+        done = append_lead(text, one, lead, indent, level);
+        i = next + lead;
+    }
+    done
+}
