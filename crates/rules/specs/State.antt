@@ -44,7 +44,7 @@ unfoldable pub when : Bool → (State → State) → State → State
 when b f s = if b then f s else s
 
 unfoldable pub refuseIf : Bool → ℕ → State → State
-refuseIf b n s = when b (onText (refuse n)) s
+refuseIf b n s = onText (λ w. if b then refuse n w else w) s
 
 unfoldable pub pushStr : Env → List ℕ → State → State
 pushStr e v s = onText (append (e .room) v) s

@@ -1,0 +1,196 @@
+//! The model held against the Rust, sheet by sheet.
+
+use std::collections::BTreeMap;
+use std::fs;
+
+use crate::model::{self, Answer, Refusal, Trial};
+use crate::oracle::{self, Panic};
+use crate::random::{self, Dice, Made};
+use crate::sheet::{NAMES, Sheet};
+use crate::watched;
+use crate::{show, watched::Height};
+
+#[derive(Default)]
+struct Tally {
+    counts: BTreeMap<(&'static str, String), u64>,
+}
+
+impl Tally {
+    fn add(&mut self, group: &'static str, name: impl Into<String>) {
+        *self.counts.entry((group, name.into())).or_default() += 1;
+    }
+
+    fn print(&self) {
+        let mut last = "";
+        for ((group, name), count) in &self.counts {
+            if *group != last {
+                println!("{group}:");
+                last = group;
+            }
+            println!("  {name:28} {count}");
+        }
+    }
+}
+
+pub fn run(n: u64, seed: u64) -> bool {
+    let mut tally = Tally::default();
+    for turn in 0..n {
+        let mut dice = Dice::new(seed, turn);
+        let made = random::make(&mut dice);
+        let ample = model::trial(&made.bytes, model::AMPLE);
+        let room = room(&mut dice, peak(&ample.heights));
+        let answer = model::answer(&made.bytes, room);
+        let compared = compare(&made, &ample).and_then(|how| {
+            buffer(&ample, room, &answer)?;
+            Ok(how)
+        });
+        match compared {
+            Ok(how) => note(&mut tally, &made, &ample, &answer, how),
+            Err(difference) => {
+                report(&made, room, seed, turn, &difference);
+                return false;
+            }
+        }
+        if (turn + 1) % (n / 10).max(1) == 0 {
+            eprintln!("{} of {n} sheets", turn + 1);
+        }
+    }
+    tally.print();
+    println!("{n} sheets, seed {seed}: no difference");
+    true
+}
+
+pub fn peak(heights: &[Height]) -> usize {
+    heights.iter().map(|height| height.peak).max().unwrap_or(0)
+}
+
+/// A buffer around the need, or far from it.
+pub fn room(dice: &mut Dice, need: usize) -> usize {
+    match dice.below(12) {
+        0..3 => need,
+        3 | 4 => need.saturating_sub(1),
+        5 => need + 1,
+        6 => dice.below(3),
+        7 => dice.below(need),
+        8 => need.saturating_sub(dice.below(8)),
+        _ => 65536,
+    }
+}
+
+/// Holds the model's answer at an ample buffer against the Rust; says what was compared.
+fn compare(made: &Made, ample: &Trial) -> Result<&'static str, String> {
+    if let Some(expected) = made.expected {
+        let same = ample.answer == Answer::Refused(expected);
+        return same.then_some("refusal put in").ok_or(format!("put in: {expected:?}"));
+    }
+    if let Answer::Refused(Refusal { number: 1..=4, .. }) = ample.answer {
+        let flipped = made.sheet.is_none();
+        return flipped.then_some("none: flipped").ok_or("a whole sheet is refused".into());
+    }
+    let sheet = Sheet::decode(&made.bytes).ok_or("cannot be decoded")?;
+    if made.sheet.as_ref().is_some_and(|whole| *whole != sheet) {
+        return Err("decoded otherwise than encoded".into());
+    }
+    match &ample.answer {
+        Answer::Laid { text, lines, width } => {
+            let rust = oracle::text(&sheet).map_err(|panic| format!("Rust: {panic:?}"))?;
+            if rust != *text || measured(&rust) != (*lines, *width) {
+                return Err(format!("the texts, the lines or the widths: {:?}", measured(&rust)));
+            }
+            heights(&sheet, &ample.heights).map(|()| "text and heights")
+        }
+        Answer::Refused(Refusal { number: 5, place }) => {
+            panics(&sheet, Panic::OneIndexedNought, *place)
+        }
+        Answer::Refused(Refusal { number: 8, place }) => {
+            panics(&sheet, Panic::IndentBelowNought, *place)
+        }
+        Answer::Refused(_) => before_refusal(&sheet, &ample.heights),
+    }
+}
+
+/// Lines and width read off the Rust's text by other means than the model's.
+pub fn measured(text: &[u8]) -> (usize, usize) {
+    if text.is_empty() {
+        return (0, 0);
+    }
+    let widths: Vec<usize> = text.split(|&b| b == b'\n').map(<[u8]>::len).collect();
+    (widths.len(), widths.into_iter().max().unwrap_or(0))
+}
+
+fn heights(sheet: &Sheet, model: &[Height]) -> Result<(), String> {
+    let rust = oracle::heights(sheet).map_err(|panic| format!("watched Rust: {panic:?}"))?;
+    if rust == model {
+        return Ok(());
+    }
+    let at = rust.iter().zip(model).position(|(r, m)| r != m);
+    Err(format!("heights: {:?}", at.map(|i| ("Rust", rust[i], "model", model[i]))))
+}
+
+fn panics(sheet: &Sheet, panic: Panic, place: usize) -> Result<&'static str, String> {
+    let plain = oracle::text(sheet).err();
+    let watched = oracle::heights(sheet).err();
+    if plain.as_ref() != Some(&panic) || watched != plain {
+        return Err(format!("Rust should panic by {panic:?}: {plain:?}, watched {watched:?}"));
+    }
+    if watched::token() != place {
+        return Err(format!("the Rust panics at token {}", watched::token()));
+    }
+    Ok("panic and its token")
+}
+
+/// Refusals 6 and 7 are not the Rust's; what was laid out before them is.
+fn before_refusal(sheet: &Sheet, model: &[Height]) -> Result<&'static str, String> {
+    let Ok(rust) = oracle::heights(sheet) else {
+        return Ok("none: the Rust panics later");
+    };
+    let before = model.len() - 1;
+    let same = rust.get(..before) == model.get(..before);
+    same.then_some("heights before 6 or 7").ok_or("heights before 6 or 7".into())
+}
+
+/// The answer at this buffer, worked out again from the heights at an ample one.
+fn buffer(ample: &Trial, room: usize, answer: &Answer) -> Result<(), String> {
+    let over = ample.heights.iter().find(|height| height.peak > room);
+    let expected = match over {
+        Some(height) => Answer::Refused(Refusal { number: 9, place: height.token }),
+        None => ample.answer.clone(),
+    };
+    (*answer == expected).then_some(()).ok_or(format!("at {room}, by the heights: {expected:?}"))
+}
+
+fn note(tally: &mut Tally, made: &Made, ample: &Trial, answer: &Answer, how: &'static str) {
+    tally.add("1 makers", made.maker);
+    tally.add("2 compared with the Rust", how);
+    tally.add("3 answers at an ample buffer", outcome(&ample.answer));
+    tally.add("4 answers at the buffer tried", outcome(answer));
+    for handler in &ample.handlers {
+        tally.add("5 handlers", *handler);
+    }
+    if let Some(sheet) = &made.sheet {
+        for token in &sheet.tokens {
+            tally.add("6 kinds", NAMES[token.kind as usize]);
+        }
+    }
+}
+
+fn outcome(answer: &Answer) -> String {
+    match answer {
+        Answer::Laid { .. } => "text".into(),
+        Answer::Refused(refusal) => format!("refusal {}", refusal.number),
+    }
+}
+
+fn report(made: &Made, room: usize, seed: u64, turn: u64, difference: &str) {
+    println!("DIFFERENCE, sheet {turn} of seed {seed} ({}): {difference}", made.maker);
+    print!("{}", show::sheet(&made.bytes));
+    for room in [room, model::AMPLE] {
+        println!("model at {room}: {}", show::answer(&model::answer(&made.bytes, room)));
+    }
+    println!("Rust: {}", show::rust(&made.bytes));
+    let file = format!("difference-{seed}-{turn}.sheet");
+    match fs::write(&file, &made.bytes) {
+        Ok(()) => println!("saved as {file}"),
+        Err(error) => println!("{file} could not be saved: {error}"),
+    }
+}

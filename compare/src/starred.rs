@@ -1,0 +1,239 @@
+//! Document 01's fourteen sheets, each with every variant and buffer that it names.
+
+use crate::check::measured;
+use crate::model::{self, Answer, Refusal};
+use crate::oracle::{self, Panic};
+use crate::sheet::*;
+use crate::show;
+
+/// The buffer of the sheet program.
+const ROOM: usize = 65536;
+
+struct Case {
+    name: &'static str,
+    sheet: Sheet,
+    room: usize,
+    wanted: Answer,
+}
+
+fn text(lines: &[&str]) -> Answer {
+    let width = lines.iter().map(|line| line.len()).max().unwrap_or(0);
+    Answer::Laid { text: lines.join("\n").into(), lines: lines.len(), width }
+}
+
+fn refusal(number: u32, place: usize) -> Answer {
+    Answer::Refused(Refusal { number, place })
+}
+
+fn of(tokens: &[(u8, &str)]) -> Sheet {
+    let tokens = tokens.iter().map(|&(kind, value)| Token::new(kind, value)).collect();
+    Sheet { tokens, ..Sheet::default() }
+}
+
+fn indexed(mut sheet: Sheet, values: &[&str]) -> Sheet {
+    sheet.mode = MODE_INDEXED;
+    let param = |value: &&str| Param { name: Vec::new(), value: (*value).into() };
+    sheet.params = values.iter().map(param).collect();
+    sheet
+}
+
+fn named(mut sheet: Sheet, entries: &[(&str, &str)]) -> Sheet {
+    sheet.mode = MODE_NAMED;
+    let param = |&(name, value): &(&str, &str)| Param { name: name.into(), value: value.into() };
+    sheet.params = entries.iter().map(param).collect();
+    sheet
+}
+
+fn with(mut sheet: Sheet, set: impl FnOnce(&mut Options)) -> Sheet {
+    set(&mut sheet.options);
+    sheet
+}
+
+fn key(mut sheet: Sheet, key: Key) -> Sheet {
+    sheet.tokens[0].key = key;
+    sheet
+}
+
+fn notes() -> Sheet {
+    let blank = (WHITESPACE, " ");
+    of(&[
+        (TOP_LEVEL, "SELECT"),
+        blank,
+        (WORD, "id"),
+        blank,
+        (TOP_LEVEL, "FROM"),
+        blank,
+        (WORD, "calls"),
+    ])
+}
+
+fn plain_sheets() -> Vec<Case> {
+    let at = |name, sheet, room, wanted| Case { name, sheet, room, wanted };
+    let word = || of(&[(WORD, "a")]);
+    let whole = ["SELECT", "  id", "FROM", "  calls"];
+    let top_level = |limit| with(notes(), |o| o.top_level = limit);
+    vec![
+        at("1 *", of(&[]), ROOM, text(&[])),
+        at("1 * buffer 0", of(&[]), 0, text(&[])),
+        at("2 *", word(), ROOM, text(&["a"])),
+        at("2 * buffer 2", word(), 2, text(&["a"])),
+        at("2 * buffer 1", word(), 1, refusal(9, 0)),
+        at("3 *", notes(), ROOM, text(&whole)),
+        at("3 * counts", notes(), ROOM, counted(&whole, 24, 4, 7)),
+        at("3 * buffer 26", notes(), 26, text(&whole)),
+        at("3 * buffer 25", notes(), 25, refusal(9, 6)),
+        at("4 * top level 5", top_level(5), ROOM, text(&["SELECT id", "FROM", "  calls"])),
+        at("4 * top level 6", top_level(6), ROOM, text(&["SELECT id", "FROM calls"])),
+    ]
+}
+
+/// The numbers as the document writes them, not as they are worked out here.
+fn counted(parts: &[&str], length: usize, lines: usize, width: usize) -> Answer {
+    let text: Vec<u8> = parts.join("\n").into();
+    assert_eq!(text.len(), length);
+    Answer::Laid { text, lines, width }
+}
+
+fn placeholder_sheets() -> Vec<Case> {
+    let at = |name, sheet, wanted| Case { name, sheet, room: ROOM, wanted };
+    let mark = (PLACEHOLDER, "?");
+    let (off, on) = ((LINE_COMMENT, "-- fmt: off"), (LINE_COMMENT, "-- fmt: on"));
+    let feed = (WHITESPACE, "\n");
+    let switched = of(&[off, feed, mark, (WORD, "x"), on, feed, mark]);
+    let line = key(of(&[(PLACEHOLDER, ":line")]), Key::Named("line".into()));
+    let nought = || key(of(&[mark]), Key::OneIndexed(0));
+    let two_empty = [("a", "1"), ("", "2"), ("", "3")];
+    vec![
+        at("5 *", indexed(of(&[mark, mark, mark]), &["7", "12"]), text(&["7 12 ?"])),
+        at("6 *", indexed(switched, &["7"]), text(&["?x7"])),
+        at("7 *", of(&[on, (WORD, "x"), (WORD, "y")]), text(&["y"])),
+        at("10 *", named(line, &[("line", "3"), ("line", "4")]), text(&["3"])),
+        at("11 Indexed", indexed(nought(), &["7"]), refusal(5, 0)),
+        at("11 Indexed, no entries", indexed(nought(), &[]), refusal(5, 0)),
+        at("11 None", nought(), text(&["?"])),
+        at("11 Named, none empty", named(nought(), &[("a", "1")]), text(&["?"])),
+        at("11 Named", named(nought(), &two_empty), text(&["2"])),
+    ]
+}
+
+fn bracket_sheets() -> Vec<Case> {
+    let at = |name, sheet, wanted| Case { name, sheet, room: ROOM, wanted };
+    let bracket = [(OPEN, "("), (WORD, "a"), (CLOSE, ")")];
+    let block = |limit| with(of(&bracket), |o| o.block = limit);
+    let after = |word: &str, create| {
+        let mut sheet = of(&[&[(TOP_LEVEL, word)], &bracket[..]].concat());
+        sheet.tokens[0].create = create;
+        with(sheet, |o| (o.block, o.top_level) = (0, 0))
+    };
+    let opened = |count| with(of(&vec![(OPEN, "("); count]), |o| (o.block, o.indent) = (0, 0));
+    vec![
+        at("8 * block 3", block(3), text(&["(a)"])),
+        at("8 * block 2", block(2), text(&["(", "  a", ")"])),
+        at("9 * FROM", after("FROM", false), text(&["FROM (", "  a", ")"])),
+        at("9 * CREATE", after("CREATE", true), refusal(8, 3)),
+        at("12 128 brackets", opened(128), text(&["("; 128])),
+        at("12 129 brackets", opened(129), refusal(6, 128)),
+    ]
+}
+
+fn word_sheets() -> Vec<Case> {
+    let at = |name, sheet, wanted| Case { name, sheet, room: ROOM, wanted };
+    let reserved = || with(of(&[(RESERVED, "is  null")]), |o| o.case = 1);
+    let mut kept = reserved();
+    kept.keep.push("is  null".into());
+    let mut joined = reserved();
+    joined.keep.push("is null".into());
+    let queries = || of(&[(WORD, "a"), (OPERATOR, ";"), (WORD, "b")]);
+    vec![
+        at("13 * upper", reserved(), text(&["IS NULL"])),
+        at("13 * kept", kept, text(&["is null"])),
+        at("13 keep word with joined blanks", joined, text(&["IS NULL"])),
+        at("14", queries(), text(&["a;", "b"])),
+        at("14 no lines between", with(queries(), |o| o.lines = 0), text(&["a;b"])),
+    ]
+}
+
+/// Which refusal comes first where 6 and 9 meet in one token: no random run can judge this, as
+/// the Rust knows neither. `full` is the length of the working text after 128 brackets.
+fn deep_sheets() -> Vec<Case> {
+    let at = |name, sheet, room, wanted| Case { name, sheet, room, wanted };
+    let deep = |kind, value| {
+        let mut tokens = vec![(OPEN, "("); 128];
+        tokens.push((kind, value));
+        with(of(&tokens), |o| (o.block, o.indent) = (0, 0))
+    };
+    let full = 256;
+    let set = || deep(NEWLINE_AFTER, "SET");
+    let top = |kind, value, top_level| {
+        let mut sheet = deep(TOP_LEVEL, "T");
+        sheet.tokens.push(Token::new(kind, value));
+        with(sheet, |o| o.top_level = top_level)
+    };
+    vec![
+        at("6 before 9 at a bracket", deep(OPEN, "("), full, refusal(6, 128)),
+        at("9 before 6, newline-after", set(), full + 2, refusal(9, 128)),
+        at("6 after the word, newline-after", set(), full + 3, refusal(6, 128)),
+        at("9 before 6, top level", top(WORD, "a", 0), full, refusal(9, 128)),
+        at("6 after the word, top level", top(WORD, "a", 0), full + 1, refusal(6, 128)),
+        at("6 before 9, newline", top(NEWLINE, "AND", 9), full + 2, refusal(6, 129)),
+    ]
+}
+
+/// The same for 5, 8 and 9, and two cases that document 01's sheets leave out.
+fn further_sheets() -> Vec<Case> {
+    let at = |name, sheet, room, wanted| Case { name, sheet, room, wanted };
+    let word = [(TOP_LEVEL, "T"), (OPEN, "("), (WORD, "a"), (CLOSE, ")")];
+    let folding = |sheet| with(sheet, |o| (o.block, o.top_level, o.indent) = (0, 0, 0));
+    let mut below = folding(of(&word));
+    below.tokens[0].create = true;
+    let switch = [(NO_INDENT, "UNION"), (LINE_COMMENT, "-- fmt: on")];
+    let dropped = folding(of(&[&switch[..], &word[..]].concat()));
+    let nought = indexed(key(of(&[(PLACEHOLDER, "?")]), Key::OneIndexed(0)), &[]);
+    let white = || of(&[(RESERVED, " ")]);
+    vec![
+        at("8 before 9", below.clone(), 7, refusal(8, 3)),
+        at("9 before the close", below, 6, refusal(9, 2)),
+        at("8 without the alias, the word dropped", dropped, ROOM, refusal(8, 5)),
+        at("5 before 9", nought, 0, refusal(5, 0)),
+        at("9 in a text that is all white", white(), 0, refusal(9, 0)),
+        at("a text that is all white", white(), 1, text(&[])),
+    ]
+}
+
+pub fn run() -> bool {
+    let parts = [plain_sheets(), placeholder_sheets(), bracket_sheets(), word_sheets()];
+    let sheets = count(parts.into_iter().flatten().collect(), "document 01's sheets");
+    let further =
+        count([deep_sheets(), further_sheets()].into_iter().flatten().collect(), "further sheets");
+    sheets && further
+}
+
+fn count(cases: Vec<Case>, what: &str) -> bool {
+    let right = cases.iter().filter(|case| is_right(case)).count();
+    println!("{what}: {right} of {} right", cases.len());
+    right == cases.len()
+}
+
+fn is_right(case: &Case) -> bool {
+    let bytes = case.sheet.encode(&mut in_turn);
+    let model = model::answer(&bytes, case.room);
+    let right = model == case.wanted && rust_agrees(case);
+    if !right {
+        println!("sheet {}: wanted {}", case.name, show::answer(&case.wanted));
+        println!("model {}\nRust {}", show::answer(&model), show::rust(&bytes));
+    }
+    right
+}
+
+/// Refusals 6 and 9 are not the Rust's.
+fn rust_agrees(case: &Case) -> bool {
+    let rust = oracle::text(&case.sheet);
+    match &case.wanted {
+        Answer::Laid { text, lines, width } => {
+            rust.is_ok_and(|got| got == *text && measured(&got) == (*lines, *width))
+        }
+        Answer::Refused(Refusal { number: 5, .. }) => rust == Err(Panic::OneIndexedNought),
+        Answer::Refused(Refusal { number: 8, .. }) => rust == Err(Panic::IndentBelowNought),
+        Answer::Refused(_) => true,
+    }
+}

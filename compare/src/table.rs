@@ -1,0 +1,175 @@
+//! Random sheets with their answers, for others to hold a port against.
+
+use std::io::{self, BufWriter, Write};
+
+use crate::check::{measured, peak, room};
+use crate::model::{self, Answer, Refusal};
+use crate::oracle;
+use crate::random::{self, Dice, Made, Maker, Size};
+use crate::sheet::Sheet;
+use crate::show::hex;
+
+const CLAIM: usize = 25;
+const LONGEST_SHEET: usize = 400;
+const LONGEST_TEXT: usize = 300;
+
+struct Row {
+    bytes: Vec<u8>,
+    room: usize,
+    answer: Answer,
+}
+
+/// Texts come from the Rust itself; refusals from the model.
+fn judged(bytes: &[u8], room: usize) -> Answer {
+    let answer = model::answer(bytes, room);
+    if let Answer::Refused(_) = answer {
+        return answer;
+    }
+    let sheet = Sheet::decode(bytes).expect("laid out, so it passed check 3");
+    let text = oracle::text(&sheet).expect("laid out, so the Rust does not panic");
+    let (lines, width) = measured(&text);
+    Answer::Laid { text, lines, width }
+}
+
+pub fn list(n: u64, seed: u64) -> bool {
+    let mut out = BufWriter::new(io::stdout().lock());
+    let done = (0..n).try_for_each(|turn| {
+        let mut dice = Dice::new(seed, turn);
+        let Made { bytes, .. } = random::make(&mut dice);
+        let need = peak(&model::trial(&bytes, model::AMPLE).heights);
+        let room = room(&mut dice, need);
+        let answer = match judged(&bytes, room) {
+            Answer::Laid { text, lines, width } => format!("ok {} {lines} {width}", hex_or(&text)),
+            Answer::Refused(Refusal { number, place }) => format!("refused {number} {place}"),
+        };
+        writeln!(out, "{} {room} {answer}", hex_or(&bytes))
+    });
+    done.and_then(|()| out.flush()).is_ok()
+}
+
+fn hex_or(bytes: &[u8]) -> String {
+    if bytes.is_empty() { "-".into() } else { hex(bytes) }
+}
+
+/// What a row of the table is to show.
+#[derive(Clone, Copy)]
+enum Wanted {
+    Text,
+    Full,
+    Nought,
+    Below,
+    Damaged,
+}
+
+/// Twenty rows: 60, 15, 10 and 15 in the hundred.
+const MIXTURE: [(Wanted, usize); 5] = [
+    (Wanted::Text, 12),
+    (Wanted::Full, 3),
+    (Wanted::Nought, 1),
+    (Wanted::Below, 1),
+    (Wanted::Damaged, 3),
+];
+
+fn row(dice: &mut Dice) -> Row {
+    let shares = MIXTURE.iter().flat_map(|&(wanted, share)| vec![wanted; share]);
+    let shares: Vec<Wanted> = shares.collect();
+    let wanted = dice.pick(&shares);
+    loop {
+        if let Some(row) = attempt(dice, wanted) {
+            return row;
+        }
+    }
+}
+
+fn attempt(dice: &mut Dice, wanted: Wanted) -> Option<Row> {
+    use Maker::*;
+    let maker = match wanted {
+        Wanted::Text => {
+            dice.pick(&[Soup, Soup, Brackets, Switch, Placeholders, Folds, Query, Query])
+        }
+        Wanted::Full => dice.pick(&[Soup, Brackets, Placeholders, Folds, Query]),
+        Wanted::Nought => Placeholders,
+        Wanted::Below => Folds,
+        Wanted::Damaged => dice.pick(&[Damaged, Damaged, Damaged, Flipped]),
+    };
+    let Made { bytes, .. } = random::make_with(dice, maker, Size::Table);
+    let need = peak(&model::trial(&bytes, model::AMPLE).heights);
+    let room = match wanted {
+        Wanted::Full => match dice.below(3) {
+            0 => dice.below(need),
+            less => need.saturating_sub(less),
+        },
+        Wanted::Damaged => dice.below(64),
+        _ => need + dice.pick(&[0, 0, 1, 7, 64]),
+    };
+    let answer = judged(&bytes, room);
+    let short = bytes.len() <= LONGEST_SHEET && need <= LONGEST_TEXT;
+    (short && fits(dice, &answer, wanted)).then_some(Row { bytes, room, answer })
+}
+
+fn fits(dice: &mut Dice, answer: &Answer, wanted: Wanted) -> bool {
+    let number = match answer {
+        Answer::Laid { text, .. } if text.is_empty() && !dice.one_in(8) => return false,
+        Answer::Laid { .. } => 0,
+        Answer::Refused(refusal) => refusal.number,
+    };
+    match wanted {
+        Wanted::Text => number == 0,
+        Wanted::Full => number == 9,
+        Wanted::Nought => number == 5,
+        Wanted::Below => number == 8,
+        Wanted::Damaged => (1..=4).contains(&number),
+    }
+}
+
+pub fn table(n: usize, seed: u64, first: usize) -> bool {
+    let mut dice = Dice::new(seed, 0);
+    let rows: Vec<Row> = (0..n).map(|_| row(&mut dice)).collect();
+    let mut out = BufWriter::new(io::stdout().lock());
+    let done = opening(&mut out, n, seed).and_then(|()| {
+        let mut claims = (first..).zip(rows.chunks(CLAIM));
+        claims.try_for_each(|(number, rows)| claim(&mut out, number, rows))
+    });
+    done.and_then(|()| out.flush()).is_ok()
+}
+
+fn opening(out: &mut impl Write, n: usize, seed: u64) -> io::Result<()> {
+    writeln!(
+        out,
+        "-- Random sheets with the Rust's answers: \
+         {n} rows, seed {seed}. Made by compare/; not kept.
+use mathlib.Core.Path.{{_≡_, refl}}
+use mathlib.Core.List.{{List, [], _∷_, map}}
+use Rattle.rules.specs.Bytes.{{bytes}}
+use Rattle.rules.specs.Answer.{{Answer, laid, refusal}}
+use Rattle.rules.specs.Computed.{{Row, row, answered, wanted, computed}}"
+    )
+}
+
+fn claim(out: &mut impl Write, number: usize, rows: &[Row]) -> io::Result<()> {
+    write!(out, "\nabbrev rows-{number} : List Row\nrows-{number} =\n    ")?;
+    for Row { bytes, room, answer } in rows {
+        write!(out, "row \"{}\" {room} ", escaped(bytes))?;
+        match answer {
+            Answer::Laid { text, lines, width } => {
+                write!(out, "(laid (bytes \"{}\") {lines} {width})", escaped(text))?;
+            }
+            Answer::Refused(Refusal { number, place }) => {
+                write!(out, "(refusal {number} {place})")?;
+            }
+        }
+        write!(out, "\n    ∷ ")?;
+    }
+    writeln!(out, "[]\n\nagree-{number} : map answered rows-{number} ≡ map wanted rows-{number}")?;
+    writeln!(out, "unfolding computed\nagree-{number} = refl")
+}
+
+fn escaped(bytes: &[u8]) -> String {
+    let one = |byte: &u8| match byte {
+        b'"' => "\\\"".to_owned(),
+        b'\\' => "\\\\".to_owned(),
+        32..=126 => char::from(*byte).to_string(),
+        _ => format!("\\u{{{byte:x}}}"),
+    };
+    bytes.iter().map(one).collect()
+}

@@ -1,0 +1,19 @@
+// Places of the bodies, by their bytes.
+ghost use mathlib.Core.Path.{_≡_};
+ghost use Rattle.rules.specs.Base.{same};
+ghost use Rattle.rules.specs.Sheet.{part};
+ghost use Rattle.tokens.specs.Placed.{Inside};
+use ascii::same_bytes;
+use rules::Place;
+use tokens::to_usize;
+
+pub fn same_places(s: &[u8], base: usize, p: Place, q: Place) -> bool
+    requires { ⌜ (Inside (now s) base p) × (Inside (now s) base q) ⌝ }
+    ensures { λ r. ⌜ r ≡ same (part (now (s .entry)) base p) (part (now (s .entry)) base q) ⌝ }
+{
+    let start = base + to_usize(p.start);
+    let n = to_usize(p.len);
+    let from = base + to_usize(q.start);
+    let m = to_usize(q.len);
+    same_bytes(s, start, n, s, from, m)
+}
