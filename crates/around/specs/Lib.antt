@@ -1,0 +1,4 @@
+pub mod Readable
+pub mod Lists
+pub mod Run
+pub mod Seen
