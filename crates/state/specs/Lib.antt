@@ -1,0 +1,3 @@
+pub mod Words
+pub mod Below
+pub mod Of
