@@ -1,5 +1,6 @@
 //! Compares document 01's rules, and any port's answers, with the Rust that the desk runs.
 
+mod answers;
 mod check;
 mod model;
 mod oracle;
@@ -64,7 +65,8 @@ const USAGE: &str = "compare check N SEED
 compare table N SEED FIRST
 compare list N SEED
 compare show FILE [ROOM]
-compare starred";
+compare starred
+compare answers N SEED FILE";
 
 fn main() -> ExitCode {
     oracle::silence_panics();
@@ -97,6 +99,9 @@ fn run(words: &[&str]) -> Option<bool> {
         ["show", file] => Some(show::run(file, 65536)),
         ["show", file, room] => Some(show::run(file, room.parse().ok()?)),
         ["starred"] => Some(starred::run()),
+        ["answers", n, seed, file] => {
+            Some(answers::run(n.parse().ok()?, seed.parse().ok()?, file))
+        }
         _ => None,
     }
 }

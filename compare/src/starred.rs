@@ -200,6 +200,14 @@ fn further_sheets() -> Vec<Case> {
     ]
 }
 
+/// Every sheet of this file with its buffer.
+pub fn sheets() -> Vec<(Vec<u8>, usize)> {
+    let parts = [plain_sheets(), placeholder_sheets(), bracket_sheets(), word_sheets()];
+    let further = [deep_sheets(), further_sheets()];
+    let cases = parts.into_iter().chain(further).flatten();
+    cases.map(|case| (case.sheet.encode(&mut in_turn), case.room)).collect()
+}
+
 pub fn run() -> bool {
     let parts = [plain_sheets(), placeholder_sheets(), bracket_sheets(), word_sheets()];
     let sheets = count(parts.into_iter().flatten().collect(), "document 01's sheets");

@@ -13,14 +13,14 @@ const CLAIM: usize = 25;
 const LONGEST_SHEET: usize = 400;
 const LONGEST_TEXT: usize = 300;
 
-struct Row {
-    bytes: Vec<u8>,
-    room: usize,
-    answer: Answer,
+pub struct Row {
+    pub bytes: Vec<u8>,
+    pub room: usize,
+    pub answer: Answer,
 }
 
 /// Texts come from the Rust itself; refusals from the model.
-fn judged(bytes: &[u8], room: usize) -> Answer {
+pub fn judged(bytes: &[u8], room: usize) -> Answer {
     let answer = model::answer(bytes, room);
     if let Answer::Refused(_) = answer {
         return answer;
@@ -70,7 +70,7 @@ const MIXTURE: [(Wanted, usize); 5] = [
     (Wanted::Damaged, 3),
 ];
 
-fn row(dice: &mut Dice) -> Row {
+pub fn row(dice: &mut Dice) -> Row {
     let shares = MIXTURE.iter().flat_map(|&(wanted, share)| vec![wanted; share]);
     let shares: Vec<Wanted> = shares.collect();
     let wanted = dice.pick(&shares);

@@ -1,0 +1,5 @@
+pub mod Due
+pub mod Strip
+pub mod Adds
+pub mod Keeps
+pub mod Call
