@@ -1,0 +1,193 @@
+-- The run over the tokens, step by step. Assumes nothing.
+use mathlib.Core.Path.{_≡_, refl, sym, ap, _∙_}
+use mathlib.Core.Bool.{Bool}
+use mathlib.Core.List.{List, [], _∷_, _++_}
+use Prim.Native.Nat.{ℕ, _+_, _-_, _≤_, _<_}
+use native.Mathlib.Omega.{arith}
+use lib.ListN.{length, take, drop, replicate}
+use Rattle.rules.specs.declared.TokenKind.{TokenKind}
+use Rattle.rules.specs.declared.Turn.{Turn}
+use Rattle.rules.specs.declared.Turn.the-variants as turn
+use Rattle.rules.specs.declared.Report.{Report}
+use Rattle.rules.specs.Text.{Text, fits, refused, change, trimmed, lines, width}
+use Rattle.rules.specs.Tokens.{Here}
+use Rattle.rules.specs.Words.{bodyAt}
+use Rattle.rules.specs.Sheet.{Env, part, tokenOf, tokensOf}
+use Rattle.rules.specs.Indentation.{noIndentation}
+use Rattle.rules.specs.State.{State, start}
+use Rattle.rules.specs.Switch.{Switch, turnOf, switchAfter, switchedOn}
+use Rattle.rules.specs.Formatter.{formatNoChange}
+use Rattle.rules.specs.Answer.{Answer, refusal, takenAs, unlessRefused, finish, report, format, reportOf, bufferOf}
+use Rattle.text.specs.Held.{textOf, Held, codeOf, bytesOf, Laid}
+use Rattle.text.specs.declared.Text.{Text as CodeText}
+use Rattle.text.proofs.HeldLaws.{text-fits, text-refused, laid-same}
+use Rattle.indentation.specs.Of.{indentationOf}
+use Rattle.indentation.specs.Of as stacks
+use Rattle.indentation.specs.declared.Indentation.{Indentation as Stacks}
+use Rattle.inline_block.specs.Of as block
+use Rattle.inline_block.specs.declared.InlineBlock.{InlineBlock}
+use Rattle.fmt_switch.specs.Of.{switchOf}
+use Rattle.fmt_switch.specs.declared.Switch.{Switch as CodeSwitch}
+use Rattle.query.specs.declared.Value.{Value}
+use Rattle.report.specs.Finished.{finished}
+use Rattle.report.specs.declared.Finished.{Finished}
+use Rattle.around.specs.Run.{runFrom, run-turn, run-end, run-all}
+use Rattle.state.specs.declared.State.{State as Code}
+use Rattle.state.specs.declared.Context.{Context}
+use Rattle.state.specs.Words.{onWords, none-words}
+use Rattle.state.specs.Below.{none-below, below-up}
+use Rattle.state.specs.Of.{valueIn, wordOf, stateOf, Known, Steady, Ready, envIn, hereIn, Handled}
+use Rattle.state.proofs.Laws.{value-is}
+use Rattle.formatter.specs.declared.Going.{Going}
+use Rattle.formatter.specs.Run.{tokenRule, kindIn, answerIn, Begun, Stepped}
+
+-- ---- the first state
+
+pub by-begun : (cap : ℕ) (q : List ℕ) (t : CodeText) (i : Stacks) (b : InlineBlock) (w : CodeSwitch) → Laid cap (fits []) t q → stacks.Stands noIndentation i → block.Stands [] b → switchOf w ≡ switchedOn
+    → Begun (record { state = record { text = t; indentation = i; «inline_block» = b; «block_level» = 0; index = 0 }; switch = w }) cap q
+unfolding stateOf start codeOf
+by-begun cap q t i b w p si sb sw =
+    record {
+      room = p .room;
+      fine = ap (λ (x : CodeText). x .fault) (p .code);
+      steady = record {
+        held = p .held;
+        stacks = si .clean;
+        words = rw (si .is) (none-below 0);
+        inlined = sb .clean;
+        level = omega arith;
+        index = omega arith;
+      };
+      state = λ s base. rw (p .text, si .is, sb .is, none-words);
+      switch = sw;
+    }
+
+-- ---- one token
+
+module _ (s : List ℕ) (x : Context) (i : ℕ) (st : Code) (d : List ℕ) (ready : Ready s x i st d) where
+  pub same-state : (f : Env → Here → State → State) → ((e : Env) (h : Here) (u : State) → f e h u ≡ u) → Handled s x i f st d st d
+  same-state f e =
+      let k = ready .steady in
+      let l = k .level in
+      let m = k .index in
+      record {
+        room = refl;
+        steady = record { held = k .held; stacks = k .stacks; words = below-up (omega arith) (k .words); inlined = k .inlined; level = omega arith; index = omega arith };
+        state = sym (e (envIn s x (length d)) (hereIn s x i) (stateOf s (x .base) st d));
+      }
+
+  pub by-dropped : (t : Turn) → t ≡ turn.Dropped → Handled s x i (takenAs t) st d st d
+  unfolding takenAs
+  by-dropped t q = rw q (same-state (takenAs turn.Dropped) (λ e h u. refl))
+
+  pub by-switch : (t : Turn) (off : Bool) → t ≡ turn.Switches off → Handled s x i (takenAs t) st d st d
+  unfolding takenAs
+  by-switch t off q = rw q (same-state (takenAs (turn.Switches off)) (λ e h u. refl))
+
+  pub by-laid-out : (t : Turn) (r : Code) (q : List ℕ) → t ≡ turn.LaidOut → Handled s x i tokenRule st d r q → Handled s x i (takenAs t) st d r q
+  unfolding takenAs
+  by-laid-out t r q e h = rw e (record { room = h .room; steady = h .steady; state = h .state })
+
+  pub by-copied : (t : Turn) (r : Code) (q : List ℕ) → t ≡ turn.Copied → Handled s x i formatNoChange st d r q → Handled s x i (takenAs t) st d r q
+  unfolding takenAs
+  by-copied t r q e h = rw e (record { room = h .room; steady = h .steady; state = h .state })
+
+pub by-step : (s : List ℕ) (x : Context) (i : ℕ) (g : Going) (d : List ℕ) (v : Value) (k : TokenKind) (t : Turn) (r : Code) (w : CodeSwitch) (q : List ℕ)
+    → v ≡ valueIn s x i → k ≡ kindIn s x i → t ≡ turnOf (switchOf (g .switch)) k (take (v .len) (drop (v .start) s)) → Handled s x i (takenAs t) (g .state) d r q → switchOf w ≡ switchAfter t (switchOf (g .switch))
+    → Stepped s x i g d (record { state = r; switch = w }) q
+by-step s x i g d v k t r w q ev ek et h es =
+    let e : t ≡ turnOf (switchOf (g .switch)) (kindIn s x i) (wordOf s (x .base) i) = et ∙ rw (ek, value-is s x i v ev) in
+    record { taken = rw e at h; switch = es ∙ rw e }
+
+-- ---- the end
+
+pub by-report : (d : List ℕ) (t : CodeText) (f : Finished) → t .fault ≡ 0 → f ≡ finished (textOf t d)
+    → record { refusal = 0; place = 0; length = f .len; lines = f .lines; width = f .width } ≡ reportOf (finish (textOf t d))
+unfolding finished finish report reportOf
+by-report d t f z e = rw (e, text-fits t d z)
+
+pub by-buffer : (d q : List ℕ) (t : CodeText) → t .fault ≡ 0 → q ≡ bytesOf (length d) (change trimmed (textOf t d)) → q ≡ bufferOf (length d) (finish (textOf t d))
+unfolding bytesOf bufferOf finish report
+by-buffer d q t z e = rw (text-fits t d z) (e ∙ rw (text-fits t d z))
+
+-- ---- the run: what is left at token i is the whole answer
+
+-- the answer of what is left at token i, in a buffer of cap bytes
+abbrev pub leftAt : List ℕ → Context → ℕ → ℕ → Going → List ℕ → Answer
+leftAt s x cap i g q = runFrom (envIn s x cap) s (x .base) (x .counts .tokens) i (switchOf (g .switch)) (stateOf s (x .base) (g .state) q)
+
+pub by-start : (s : List ℕ) (x : Context) (g : Going) (cap : ℕ) (q : List ℕ) → Known s x → Begun g cap q → leftAt s x cap 0 g q ≡ answerIn s x cap
+by-start s x g cap q known b = rw (b .state s (x .base), b .switch, known .base) (sym (run-all (envIn s x cap) s (x .counts)))
+
+module _ (s : List ℕ) (x : Context) (i : ℕ) (g : Going) (d : List ℕ) (r : Going) (q : List ℕ) (a : Answer) (cap : ℕ) (room : length d ≡ cap) (here : i < x .counts .tokens)
+    (st : Stepped s x i g d r q) (left : leftAt s x cap i g d ≡ a) where
+  -- a turn of the rules' run
+  turned : unlessRefused (textOf (r .state .text) q) i (leftAt s x cap (i + 1) r q) ≡ a
+  unfolding stateOf
+  turned =
+      let h : stateOf s (x .base) (r .state) q ≡ takenAs (turnOf (switchOf (g .switch)) (tokenOf s (x .base) i .kind) (tokenOf s (x .base) i .value)) (envIn s x cap) (hereIn s x i) (stateOf s (x .base) (g .state) d) = rw room at (st .taken .state) in
+      rw (st .switch) (ap (λ (u : State). unlessRefused (u .text) i (runFrom (envIn s x cap) s (x .base) (x .counts .tokens) (i + 1) (switchAfter (turnOf (switchOf (g .switch)) (tokenOf s (x .base) i .kind) (tokenOf s (x .base) i .value)) (switchOf (g .switch))) u)) h
+      ∙ sym (run-turn (envIn s x cap) s (x .base) (x .counts .tokens) i (switchOf (g .switch)) (stateOf s (x .base) (g .state) d) here) ∙ left)
+
+  pub by-turn : r .state .text .fault ≡ 0 → leftAt s x cap (i + 1) r q ≡ a
+  unfolding unlessRefused
+  by-turn z = sym (rw (text-fits (r .state .text) q z)) ∙ turned
+
+  refused-at : (r .state .text .fault ≡ 0 → ⊥) → a ≡ refusal (r .state .text .fault) i
+  unfolding unlessRefused
+  refused-at z = sym turned ∙ rw (text-refused (r .state .text) q z)
+
+  pub by-refused : (r .state .text .fault ≡ 0 → ⊥) → record { refusal = r .state .text .fault; place = i; length = 0; lines = 0; width = 0 } ≡ reportOf a
+  unfolding reportOf
+  by-refused z = rw (refused-at z)
+
+  pub by-zeros : (r .state .text .fault ≡ 0 → ⊥) → q ≡ bufferOf cap a
+  unfolding bufferOf bytesOf
+  by-zeros z =
+      let m = laid-same (r .state .text) q (st .taken .steady .held) .bytes in
+      rw (refused-at z) (m ∙ rw (text-refused (r .state .text) q z, st .taken .room, room))
+
+-- the last token is taken
+pub by-end : (s : List ℕ) (x : Context) (cap i : ℕ) (g : Going) (q : List ℕ) (a : Answer) → x .counts .tokens ≤ i → leftAt s x cap i g q ≡ a → finish (textOf (g .state .text) q) ≡ a
+unfolding stateOf
+by-end s x cap i g q a h left = sym (run-end (envIn s x cap) s (x .base) (x .counts .tokens) i (switchOf (g .switch)) (stateOf s (x .base) (g .state) q) h) ∙ left
+
+-- ---- the loop
+
+-- what holds at token i: the text is not refused, and what is left is the whole answer
+pub record Running (s : List ℕ) (x : Context) (cap i : ℕ) (g : Going) (q : List ℕ) : Type 0 where
+  pub few : i ≤ x .counts .tokens
+  pub room : length q ≡ cap
+  pub fine : g .state .text .fault ≡ 0
+  pub steady : Steady i (g .state) q
+  pub left : leftAt s x cap i g q ≡ answerIn s x cap
+
+pub run-starts : (s : List ℕ) (x : Context) (g : Going) (cap : ℕ) (q : List ℕ) → Known s x → Begun g cap q → Running s x cap 0 g q
+run-starts s x g cap q known b = record { few = omega arith; room = b .room; fine = b .fine; steady = b .steady; left = by-start s x g cap q known b }
+
+pub run-ready : (s : List ℕ) (x : Context) (cap i : ℕ) (g : Going) (q : List ℕ) → Known s x → i < x .counts .tokens → Running s x cap i g q → Ready s x i (g .state) q
+run-ready s x cap i g q known here r = record { known = known; here = here; steady = r .steady }
+
+module _ (s : List ℕ) (x : Context) (cap i : ℕ) (g : Going) (d : List ℕ) (r : Going) (q : List ℕ) (run : Running s x cap i g d) (here : i < x .counts .tokens) (st : Stepped s x i g d r q) where
+  pub run-goes : r .state .text .fault ≡ 0 → Running s x cap (i + 1) r q
+  run-goes z =
+      record {
+        few = omega arith;
+        room = st .taken .room ∙ run .room;
+        fine = z;
+        steady = st .taken .steady;
+        left = by-turn s x i g d r q (answerIn s x cap) cap (run .room) here st (run .left) z;
+      }
+
+  pub run-refused : (r .state .text .fault ≡ 0 → ⊥) → record { refusal = r .state .text .fault; place = i; length = 0; lines = 0; width = 0 } ≡ reportOf (answerIn s x cap)
+  run-refused z = by-refused s x i g d r q (answerIn s x cap) cap (run .room) here st (run .left) z
+
+  pub run-zeros : (r .state .text .fault ≡ 0 → ⊥) → q ≡ bufferOf cap (answerIn s x cap)
+  run-zeros z = by-zeros s x i g d r q (answerIn s x cap) cap (run .room) here st (run .left) z
+
+module _ (s : List ℕ) (x : Context) (cap i : ℕ) (g : Going) (d q : List ℕ) (run : Running s x cap i g d) (over : x .counts .tokens ≤ i) where
+  pub run-reports : (p : Report) → p ≡ reportOf (finish (textOf (g .state .text) d)) → p ≡ reportOf (answerIn s x cap)
+  run-reports p e = e ∙ ap reportOf (by-end s x cap i g d (answerIn s x cap) over (run .left))
+
+  pub run-fills : q ≡ bufferOf (length d) (finish (textOf (g .state .text) d)) → q ≡ bufferOf cap (answerIn s x cap)
+  run-fills e = e ∙ rw (run .room, by-end s x cap i g d (answerIn s x cap) over (run .left))

@@ -1,0 +1,35 @@
+-- The stacks at a newline word: a top-level word that was inlined is indented where the line breaks.
+use mathlib.Core.Path.{_≡_}
+use mathlib.Core.Bool.{Bool, false, not, _&&_}
+use mathlib.Core.Option.{Option, none, some}
+use Prim.Native.Nat.{ℕ, _≤_}
+use Rattle.rules.specs.declared.SpanInfo.{SpanInfo}
+use Rattle.rules.specs.Base.{if_then_else_}
+use Rattle.rules.specs.InlineBlock.{full}
+use Rattle.rules.specs.Indentation.{Indentation, indentLevel, increaseTopLevel, setPreviousReserved, previousTopLevelReserved}
+use Rattle.indentation.specs.Of.{Stands}
+use Rattle.reserved.specs.declared.Newline.{Newline}
+
+-- f where b holds, whatever stands for a word
+unfoldable pub whenI : {W : Type 0} → Bool → (Indentation W → Indentation W) → Indentation W → Indentation W
+whenI b f i = if b then f i else i
+
+-- the last top-level word's span is pushed where it was inlined
+unfoldable pub indentLast : {W : Type 0} → Option SpanInfo → Indentation W → Indentation W
+indentLast none i = i
+indentLast (some sp) i = whenI (not (sp .«newline_after»)) (increaseTopLevel sp) i
+
+-- refusal 6 is given where there is such a word, and the stack is full
+unfoldable pub sixIn : Option SpanInfo → Bool → Bool
+sixIn none full = false
+sixIn (some sp) full = not (sp .«newline_after») && full
+
+abbrev pub indentedIn : {W : Type 0} → Bool → Indentation W → Indentation W
+indentedIn breaks i = whenI breaks (indentLast (previousTopLevelReserved i)) i
+
+-- the newline word is n
+pub record Indented (i : Indentation ℕ) (breaks : Bool) (n : ℕ) (r : Newline) : Type 0 where
+  pub six : r .six ≡ sixIn (previousTopLevelReserved i) (full (i .indentTypes))
+  pub level : r .level ≡ indentLevel false (indentedIn breaks i)
+  pub low : r .level ≤ 128
+  pub stands : Stands (setPreviousReserved n (indentedIn breaks i)) (r .stacks)

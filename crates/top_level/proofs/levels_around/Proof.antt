@@ -1,0 +1,38 @@
+use Rattle.top_level.proofs.Laws.{by-turned}
+use borrow.Author.Needs.{needs}
+use Rattle.top_level.proofs.levels_around.Statement.{statement}
+use Rattle.top_level.proofs.levels_around.Tie as tie
+
+decrease-if-requires : tie.Need-decrease-if-requires
+decrease-if-requires c κs = search needs
+
+increase-if-requires : tie.Need-increase-if-requires
+increase-if-requires c κs = search needs
+
+set-previous-top-level-requires : tie.Need-set-previous-top-level-requires
+set-previous-top-level-requires c κs = search needs
+
+indent-level-requires : tie.Need-indent-level-requires
+indent-level-requires c κs = search needs
+
+is-full-requires : tie.Need-is-full-requires
+is-full-requires c κs = search needs
+
+indent-level-requires-2 : tie.Need-indent-level-requires-2
+indent-level-requires-2 c κs = search needs
+
+returns : tie.Need-returns
+returns c =
+    by-turned _ _ _ _ _ _ _ _ _ _ _ (c .before .before .before .before .before .decrease-if .ensures) (c .before .before .before .before .increase-if .ensures) (c .before .before .before .set-previous-top-level .ensures) (c .before .before .indent-level .ensures) (c .before .is-full .ensures) (c .indent-level2 .ensures)
+
+pub levels-around-spec : {M : Type 1} → statement M
+levels-around-spec =
+    tie.close
+    (tie.spec
+    decrease-if-requires
+    increase-if-requires
+    set-previous-top-level-requires
+    indent-level-requires
+    is-full-requires
+    indent-level-requires-2
+    returns)

@@ -1,0 +1,208 @@
+// The handlers of the words that start a level, in formatter.rs's order.
+// They differ in when the stacks shrink and grow: `levels_around` says it once for all three.
+ghost use mathlib.Core.Path.{_≡_};
+ghost use mathlib.Core.Bool.{not, _&&_};
+ghost use Prim.Native.Nat.{_≤_, _<_};
+ghost use Rattle.rules.specs.declared.Limit.the-variants as limits;
+ghost use Rattle.rules.specs.Words.{tokenAt};
+ghost use Rattle.rules.specs.Span.{topLevelTokensInfo};
+ghost use Rattle.rules.specs.Indentation.{decreaseTopLevel};
+ghost use Rattle.rules.specs.Formatter.{newlineBefore, formatTopLevelReservedWord, formatTopLevelReservedWordNoIndent, formatNewlineAfterReservedWord};
+ghost use Rattle.indentation.specs.Of.{spanIn, indentationOf, Clean, Stands};
+ghost use Rattle.state.specs.Of.{Known, Ready, Handled, hereIn};
+ghost use Rattle.reserved.specs.Inlined.{whenI};
+ghost use Rattle.top_level.specs.Levels.{onSpan, Turned};
+use ahead::top_level_tokens_info;
+use around::value_len;
+use indentation::Indentation;
+use indentation::TopLevel;
+use query_reserved::TopLevelWord;
+use reserved::case_of;
+use reserved::increase_if;
+use rules::Limit;
+use rules::SpanInfo;
+use state::Context;
+use state::State;
+use state::value_of;
+use tokens::create_at;
+use tokens::to_usize;
+
+// The levels before and after a word that starts one, the stacks after it, and whether they were full before.
+pub struct Levels {
+    pub out: usize,
+    pub six: bool,
+    pub into: usize,
+    pub stacks: Indentation,
+}
+
+// ---- the span, and the stacks around the word
+
+fn span_info(sheet: &[u8], x: Context, i: usize, level: u32, block_len: u32) -> SpanInfo
+    requires { ⌜ (Known (now sheet) x) × (i < x .counts .tokens) × (level ≤ i) ⌝ }
+    ensures { λ r. ⌜ r ≡ topLevelTokensInfo (x .options) level «block_len» (hereIn (now (sheet .entry)) x i .after) ⌝ }
+{
+    let c = x.counts;
+    let o = x.options;
+    top_level_tokens_info(sheet, x.base, c.tokens, i, level, o, block_len)
+}
+
+fn decrease_if(stacks: Indentation, b: bool) -> Indentation
+    requires { ⌜ Clean stacks ⌝ }
+    ensures { λ r. ⌜ Stands (whenI b decreaseTopLevel (indentationOf stacks)) r ⌝ }
+{
+    if b {
+        return stacks.decrease_top_level();
+    }
+    stacks
+}
+
+// The word is token n.
+fn levels_around(stacks: Indentation, before: bool, after: bool, span: SpanInfo, n: u16) -> Levels
+    requires { ⌜ Clean stacks ⌝ }
+    requires { ⌜ n < 65535 ⌝ }
+    ensures { λ r. ⌜ Turned (indentationOf stacks) before after span n r ⌝ }
+{
+    let from = decrease_if(stacks, before);
+    let to = increase_if(from, after, span);
+    let noted = to.set_previous_top_level(n, span);
+    Levels {
+        out: from.indent_level(false),
+        six: from.is_full(),
+        into: to.indent_level(false),
+        stacks: noted,
+    }
+}
+
+// ---- top-level words
+
+// `CREATE` starts none.
+fn starts_level(sheet: &[u8], x: Context, i: usize, newline_after: bool) -> bool
+    requires { ⌜ (Known (now sheet) x) × (i < x .counts .tokens) ⌝ }
+    ensures { λ r. ⌜ r ≡ («newline_after» && not (tokenAt (now (sheet .entry)) i .create)) ⌝ }
+{
+    if newline_after {
+        return !create_at(sheet, i);
+    }
+    false
+}
+
+pub fn format_top_level_reserved_word(
+    query: &mut [u8],
+    s: State,
+    sheet: &[u8],
+    x: Context,
+    i: usize,
+) -> State
+    requires { ⌜ Ready (now sheet) x i s (now query) ⌝ }
+    ensures { λ r. ⌜ Handled (now (sheet .entry)) x i (onSpan formatTopLevelReservedWord) s (now (query .entry)) r (now (query .exit)) ⌝ }
+{
+    let v = value_of(sheet, x, i);
+    let k = case_of(sheet, x, i);
+    let inline = s.inline_block;
+    let span = span_info(sheet, x, i, s.block_level, inline.cur_len());
+    let before = span.newline_before;
+    let after = starts_level(sheet, x, i, span.newline_after);
+    let stacks = s.indentation;
+    let l = levels_around(stacks, before, after, span, i as u16);
+    let how = TopLevelWord {
+        before,
+        out: l.out,
+        after,
+        six: l.six,
+        into: l.into,
+    };
+    let t = s.text;
+    let o = x.options;
+    let u = query_reserved::format_top_level_reserved_word(query, t, sheet, v, k, o, how);
+    let noted = l.stacks;
+    s.with_indentation(u, noted)
+}
+
+pub fn format_top_level_reserved_word_no_indent(
+    query: &mut [u8],
+    s: State,
+    sheet: &[u8],
+    x: Context,
+    i: usize,
+) -> State
+    requires { ⌜ Ready (now sheet) x i s (now query) ⌝ }
+    ensures { λ r. ⌜ Handled (now (sheet .entry)) x i (onSpan formatTopLevelReservedWordNoIndent) s (now (query .entry)) r (now (query .exit)) ⌝ }
+{
+    let v = value_of(sheet, x, i);
+    let k = case_of(sheet, x, i);
+    let inline = s.inline_block;
+    let span = span_info(sheet, x, i, s.block_level, inline.cur_len());
+    let before = span.newline_before;
+    let stacks = s.indentation;
+    let l = levels_around(stacks, before, false, span, i as u16);
+    let how = TopLevelWord {
+        before,
+        out: l.out,
+        after: span.newline_after,
+        six: false,
+        into: l.into,
+    };
+    let t = s.text;
+    let o = x.options;
+    let u = query_reserved::format_top_level_reserved_word(query, t, sheet, v, k, o, how);
+    let noted = l.stacks;
+    s.with_indentation(u, noted)
+}
+
+// ---- a word with a new line after it
+
+// The stacks put no bound on a span: it and the length are added as `usize`, where two words cannot wrap.
+fn longer(most: u32, last: TopLevel, len: u32) -> bool
+    ensures { λ r. ⌜ r ≡ newlineBefore (limits.Some most) (spanIn last) len ⌝ }
+{
+    match last {
+        TopLevel::Nothing => true,
+        TopLevel::Span(sp) => to_usize(most) < to_usize(sp.full_span) + to_usize(len),
+    }
+}
+
+fn newline_before(limit: Limit, last: TopLevel, len: u32) -> bool
+    ensures { λ r. ⌜ r ≡ newlineBefore limit (spanIn last) len ⌝ }
+{
+    match limit {
+        Limit::None => true,
+        Limit::Some(most) => longer(most, last, len),
+    }
+}
+
+pub fn format_newline_after_reserved_word(
+    query: &mut [u8],
+    s: State,
+    sheet: &[u8],
+    x: Context,
+    i: usize,
+) -> State
+    requires { ⌜ Ready (now sheet) x i s (now query) ⌝ }
+    ensures { λ r. ⌜ Handled (now (sheet .entry)) x i (onSpan formatNewlineAfterReservedWord) s (now (query .entry)) r (now (query .exit)) ⌝ }
+{
+    let v = value_of(sheet, x, i);
+    let k = case_of(sheet, x, i);
+    let inline = s.inline_block;
+    let span = span_info(sheet, x, i, s.block_level, inline.cur_len());
+    let stacks = s.indentation;
+    let o = x.options;
+    let limit = o.max_inline_top_level;
+    let len = value_len(sheet, x.base, i);
+    let before = newline_before(limit, stacks.previous_top_level_reserved(), len);
+    let l = levels_around(stacks, before, true, span, i as u16);
+    let t = s.text;
+    let u = query_reserved::format_newline_after_reserved_word(
+        query,
+        t,
+        sheet,
+        v,
+        k,
+        o,
+        before,
+        l.out,
+        l.six,
+        l.into,
+    );
+    let noted = l.stacks;
+    s.with_indentation(u, noted)
+}

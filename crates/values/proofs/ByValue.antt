@@ -1,0 +1,55 @@
+-- Where a token's value is a sign, the sign's rule is the rule. Assumes nothing.
+use mathlib.Core.Path.{_≡_, _∙_}
+use mathlib.Core.Bool.{Bool, true, false}
+use mathlib.Core.List.{List}
+use Prim.Native.Nat.{ℕ, _<_}
+use Prim.Native.String.{String}
+use lib.ListN.{length}
+use Rattle.rules.specs.Base.{same}
+use Rattle.rules.specs.Bytes.{bytes}
+use Rattle.rules.specs.Tokens.{Here}
+use Rattle.rules.specs.Sheet.{Env}
+use Rattle.rules.specs.State.{State, choose}
+use Rattle.rules.specs.Formatter.{formatWithSpaces, formatWithSpaceAfter, formatWithoutSpaces, formatComma, formatQuerySeparator, formatByValue}
+use Rattle.tokens.specs.Placed.{Within}
+use Rattle.state.specs.declared.State.{State as Code}
+use Rattle.state.specs.declared.Context.{Context}
+use Rattle.state.specs.Of.{wordOf, stateOf, Known, envIn, hereIn, Handled}
+use Rattle.values.specs.On.{onValue}
+
+pub known-within : (s : List ℕ) (x : Context) (i : ℕ) → Known s x → i < x .counts .tokens → Within s (x .base) i
+known-within s x i known here = rw (known .base) (known .sheeted .tokens .within i here)
+
+module _ (s : List ℕ) (x : Context) (i : ℕ) (st : Code) (d : List ℕ) (r : Code) (q : List ℕ) where
+  abbrev ruled : (Env → List ℕ → State → State) → State
+  ruled f = f (envIn s x (length d)) (wordOf s (x .base) i) (stateOf s (x .base) st d)
+
+  by-rule : (f : Env → List ℕ → State → State) → ruled f ≡ ruled formatByValue → Handled s x i (onValue f) st d r q → Handled s x i (onValue formatByValue) st d r q
+  by-rule f e p = record { room = p .room; steady = p .steady; state = p .state ∙ e }
+
+  abbrev isSign : String → Bool
+  isSign b = same (wordOf s (x .base) i) (bytes b)
+
+  module _ (comma : Bool) (c : comma ≡ isSign ",") where
+    pub is-comma : comma ≡ true → Handled s x i (onValue formatComma) st d r q → Handled s x i (onValue formatByValue) st d r q
+    unfolding formatByValue choose
+    is-comma h = by-rule formatComma (rw (← c, h))
+
+    module _ (colon : Bool) (l : colon ≡ isSign ":") (no : comma ≡ false) where
+      pub is-colon : colon ≡ true → Handled s x i (onValue formatWithSpaceAfter) st d r q → Handled s x i (onValue formatByValue) st d r q
+      unfolding formatByValue choose
+      is-colon h = by-rule formatWithSpaceAfter (rw (← c, no, ← l, h))
+
+      module _ (dot : Bool) (o : dot ≡ isSign ".") (nor : colon ≡ false) where
+        pub is-dot : dot ≡ true → Handled s x i (onValue formatWithoutSpaces) st d r q → Handled s x i (onValue formatByValue) st d r q
+        unfolding formatByValue choose
+        is-dot h = by-rule formatWithoutSpaces (rw (← c, no, ← l, nor, ← o, h))
+
+        module _ (semicolon : Bool) (m : semicolon ≡ isSign ";") (none : dot ≡ false) where
+          pub is-semicolon : semicolon ≡ true → Handled s x i (onValue formatQuerySeparator) st d r q → Handled s x i (onValue formatByValue) st d r q
+          unfolding formatByValue choose
+          is-semicolon h = by-rule formatQuerySeparator (rw (← c, no, ← l, nor, ← o, none, ← m, h))
+
+          pub is-other : semicolon ≡ false → Handled s x i (onValue formatWithSpaces) st d r q → Handled s x i (onValue formatByValue) st d r q
+          unfolding formatByValue choose
+          is-other h = by-rule formatWithSpaces (rw (← c, no, ← l, nor, ← o, none, ← m, h))

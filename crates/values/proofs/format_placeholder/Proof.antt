@@ -1,0 +1,45 @@
+use denote.Ref.{now}
+use Rattle.values.proofs.Placeholder.{key-known, index-small, start-small, shown-within, by-placeholder}
+use borrow.Author.Needs.{needs}
+use Rattle.values.proofs.format_placeholder.Statement.{statement}
+use Rattle.values.proofs.format_placeholder.Tie as tie
+
+token-at-requires : tie.Need-token-at-requires
+token-at-requires c κs = search needs
+
+get-requires : tie.Need-get-requires
+get-requires c κs = search (needs, key-known, index-small)
+
+value-in-requires : tie.Need-value-in-requires
+value-in-requires c κs = search (needs, start-small)
+
+offends-requires : tie.Need-offends-requires
+offends-requires c κs = search needs
+
+format-placeholder-requires : tie.Need-format-placeholder-requires
+format-placeholder-requires c κs = search (needs, shown-within)
+
+with-index-requires : tie.Need-with-index-requires
+with-index-requires c κs = search needs
+
+same-length : tie.Need-same-length
+same-length c = search needs
+
+returns : tie.Need-returns
+returns c =
+    let start = c .before .before .before .before .before .before .before .before .before .before .before .before .before .before in
+    by-placeholder (now (start .args .sheet)) (start .args .x) (start .args .i) (start .args .s) _ (start .pre) _ (c .before .before .before .before .before .before .before .before .before .before .before .token-at .ensures) _ (c .before .before .before .before .before .before .before .before .before .get .ensures) _ (c .before .before .before .before .before .before .before .value-in .ensures) _ _ _ _
+    (c .before .before .before .before .before .before .offends .ensures) (c .before .before .before .format-placeholder .ensures) (c .with-index .ensures)
+
+pub format-placeholder-spec : {M : Type 1} → statement M
+format-placeholder-spec =
+    tie.close
+    (tie.spec
+    token-at-requires
+    get-requires
+    value-in-requires
+    offends-requires
+    format-placeholder-requires
+    with-index-requires
+    same-length
+    returns)

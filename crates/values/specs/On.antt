@@ -1,0 +1,25 @@
+-- What a handler reads of its token, and what a placeholder makes of the state.
+use mathlib.Core.List.{List}
+use Prim.Native.Nat.{ℕ, _+_}
+use Rattle.rules.specs.declared.Place.{Place}
+use Rattle.rules.specs.Tokens.{Token, Here}
+use Rattle.rules.specs.Sheet.{Env}
+use Rattle.rules.specs.State.{State}
+use Rattle.query.specs.declared.Value.{Value}
+use Rattle.text.specs.declared.Text.{Text}
+use Rattle.state.specs.declared.State.{State as Code}
+
+-- a handler that reads the token's value alone
+abbrev pub onValue : (Env → List ℕ → State → State) → Env → Here → State → State
+onValue f e h s = f e (h .token .value) s
+
+-- a handler that reads the token alone
+abbrev pub onToken : (Env → Token → State → State) → Env → Here → State → State
+onToken f e h s = f e (h .token) s
+
+-- a place of the bodies, base being the offset of the first body byte
+abbrev pub placed : ℕ → Place → Value
+placed base p = record { start = base + p .start; len = p .len }
+
+abbrev pub withIndex : Code → Text → ℕ → Code
+withIndex st t n = record { text = t; indentation = st .indentation; «inline_block» = st .«inline_block»; «block_level» = st .«block_level»; index = n }
