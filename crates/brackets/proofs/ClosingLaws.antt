@@ -1,23 +1,21 @@
 -- A closing bracket: its tests, and its rule from what its calls gave. Assumes nothing.
 use mathlib.Core.Path.{_≡_, refl, _∙_}
 use mathlib.Core.Bool.{Bool, true, false, not}
-use mathlib.Core.List.{List, [], _∷_, map, tail}
+use mathlib.Core.List.{List, [], _∷_, tail}
 use Prim.Native.Nat.{ℕ, _+_, _-_}
 use native.Mathlib.Nat.{sub-zero}
 use native.Mathlib.Omega.{arith}
 use borrow.Author.Tests.{not-true, not-false, lt-ltb}
 use lib.Dec.{eqb}
 use lib.ListN.{length}
+use Rattle.rules.specs.Base.{if_then_else_}
 use Rattle.rules.specs.declared.Case.{Case}
 use Rattle.rules.specs.declared.FormatOptions.{FormatOptions}
-use Rattle.rules.specs.declared.IndentType.{IndentType}
-use Rattle.rules.specs.declared.IndentType.the-variants.{Top, Block, FoldedBlock}
-use Rattle.rules.specs.Base.{if_then_else_}
 use Rattle.rules.specs.Bytes.{bytes as text}
 use Rattle.rules.specs.Sheet.{envOf}
 use Rattle.rules.specs.Text.{Text, inCase, isLower}
 use Rattle.rules.specs.State.{State}
-use Rattle.rules.specs.Indentation.{Indentation, Closed, PreviousTokens, indentLevel, popBlock, decreaseBlockLevel}
+use Rattle.rules.specs.Indentation.{Indentation, Closed, indentLevel, decreaseBlockLevel}
 use Rattle.rules.specs.InlineBlock.{isActive}
 use Rattle.rules.specs.Formatter.{formatClosingParentheses}
 use Rattle.ascii.specs.Part.{part as bytes}
@@ -32,12 +30,12 @@ use Rattle.query.specs.declared.Value.{Value}
 use Rattle.query.proofs.Halves as halves
 use Rattle.state.specs.declared.State.{State as Code}
 use Rattle.state.specs.declared.Context.{Context}
-use Rattle.state.specs.Words.{onPrevious, onWords}
+use Rattle.state.specs.Words.{onWords, closed-words, level-words}
 use Rattle.state.specs.Below.{below-up, closed-below}
 use Rattle.state.specs.Of.{valueIn, wordOf, stateOf, Ready, envIn, hereIn, Handled}
 use Rattle.state.proofs.Laws.{value-is}
 use Rattle.brackets.specs.Brackets.{caseIn, bracketIn, endsUnder, closingOf}
-use Rattle.brackets.proofs.Laws.{said, lowered, bracket-is, level-words, by-whole}
+use Rattle.brackets.proofs.Laws.{said, lowered, bracket-is, by-whole}
 
 -- ---- refusal 8
 
@@ -71,24 +69,6 @@ module _ (s : List ℕ) (x : Context) (i : ℕ) (o : FormatOptions) (active eigh
 -- ---- a block closed under another name for each word
 
 module _ {A B : Type 0} (f : A → B) where
-  abbrev named : Closed A → Closed B
-  named c = record { folded = c .folded; left = onWords f (c .left) }
-
-  tail-map : (l : List (PreviousTokens A)) → map (onPrevious f) (tail l) ≡ tail (map (onPrevious f) l)
-  tail-map [] = refl
-  tail-map (p ∷ ps) = refl
-
-  pop-words : (ts : List IndentType) (sp : List ℕ) (pr : List (PreviousTokens A)) → popBlock ts sp (map (onPrevious f) pr) ≡ named (popBlock ts sp pr)
-  unfolding onWords popBlock
-  pop-words [] sp pr = refl
-  pop-words (Top ∷ ts) sp pr = rw (← tail-map) (pop-words ts (tail sp) (tail pr))
-  pop-words (Block ∷ ts) sp pr = rw tail-map
-  pop-words (FoldedBlock ∷ ts) sp pr = rw tail-map
-
-  closed-words : (i : Indentation A) → decreaseBlockLevel (onWords f i) ≡ named (decreaseBlockLevel i)
-  unfolding onWords decreaseBlockLevel
-  closed-words i = pop-words (i .indentTypes) (i .topLevelSpan) (i .previous)
-
   under-words : (o : FormatOptions) (b : Bool) (i : Indentation A) → endsUnder o b (onWords f i) ≡ endsUnder o b i
   unfolding onWords endsUnder
   under-words o b i = refl
@@ -134,7 +114,7 @@ module _ (s : List ℕ) (x : Context) (i : ℕ) (st : Code) (d : List ℕ) (read
   closing-rule eight active level n ee el ea en =
       let rule = halves.closing (envIn s x (length d)) (hereIn s x i) now in
       rw (ee, ← under-words name (x .options) (shut .folded) (shut .left), el, ← level-words name (shut .folded) (shut .left), ea, en, bracket-is s x (length d) i (ready .known), ready .known .options, ← ended blocks)
-      (rw (closed-words name stacks) at rule)
+      (rw (← closed-words name stacks) at rule)
 
   pub by-closing : (closed : CodeClosed) (eight active : Bool) (level n : ℕ) (t : CodeText) (l : InlineBlock) (q : List ℕ)
       → StandsClosed shut closed

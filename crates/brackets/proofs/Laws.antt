@@ -7,20 +7,19 @@ use native.Mathlib.Omega.{arith}
 use borrow.Author.Tests.{leb-true, le-leb, lt-leb}
 use lib.Dec.{leb}
 use lib.ListN.{length}
+use Rattle.rules.specs.Base.{if_then_else_}
 use Rattle.rules.specs.declared.Case.{Case}
 use Rattle.rules.specs.declared.Case.the-variants as case
 use Rattle.rules.specs.declared.Place.{Place}
-use Rattle.rules.specs.Base.{if_then_else_}
 use Rattle.rules.specs.Words.{tokenAt, bodyAt}
 use Rattle.rules.specs.Sheet.{Env, part}
 use Rattle.rules.specs.Tokens.{Here}
 use Rattle.rules.specs.Text.{Text, toUpper, toLower, byteInCase, inCase}
 use Rattle.rules.specs.State.{State}
-use Rattle.rules.specs.Indentation.{Indentation, indentLevel}
+use Rattle.rules.specs.Indentation.{Indentation}
 use Rattle.rules.specs.Formatter.{formatReservedWord}
 use Rattle.ascii.specs.Part.{part as bytes}
 use Rattle.tokens.specs.Placed.{Inside}
-use Rattle.around.specs.Readable.{Readable, sheeted-readable}
 use Rattle.keeps.specs.CaseOf.{caseOf, rules-case}
 use Rattle.text.specs.Held.{Laid}
 use Rattle.text.specs.declared.Text.{Text as CodeText}
@@ -38,9 +37,6 @@ use Rattle.state.proofs.Laws.{value-is}
 use Rattle.brackets.specs.Brackets.{caseIn, bracketIn}
 
 -- ---- the sheet
-
-pub readable-in : (s : List ℕ) (x : Context) → Known s x → Readable s (x .base) (x .counts .tokens)
-readable-in s x known = rw (known .base) (sheeted-readable s (x .counts) (known .sheeted))
 
 module _ (s : List ℕ) (x : Context) (i : ℕ) (p : Place) (known : Known s x) (e : p ≡ tokenAt s i .value) where
   pub value-in : i < x .counts .tokens → Inside s (bodyAt (x .counts)) p
@@ -92,10 +88,6 @@ lowered k [] = refl
 lowered k (c ∷ v) = rw (byte-lowered k c, lowered k v)
 
 -- ---- the stacks under another name for each word
-
-pub level-words : {A B : Type 0} (f : A → B) (b : Bool) (i : Indentation A) → indentLevel b (onWords f i) ≡ indentLevel b i
-unfolding onWords indentLevel
-level-words f b i = refl
 
 -- ---- a state that is made anew
 

@@ -36,12 +36,12 @@ use Rattle.query_brackets.specs.Opening.{opening}
 use Rattle.query_brackets.specs.declared.Opening.{Opening}
 use Rattle.state.specs.declared.State.{State as Code}
 use Rattle.state.specs.declared.Context.{Context}
-use Rattle.state.specs.Words.{onWords, block-words, last-top-level}
+use Rattle.state.specs.Words.{onWords, block-words, last-top-level, level-words}
 use Rattle.state.specs.Below.{below-up, block-below}
 use Rattle.state.specs.Of.{valueIn, wordOf, stateOf, Ready, envIn, hereIn, Handled}
 use Rattle.state.proofs.Laws.{value-is}
 use Rattle.brackets.specs.Brackets.{onBlock, caseIn, bracketIn, foldedIn, openingIn}
-use Rattle.brackets.proofs.Laws.{said, bracket-is, level-words, by-whole}
+use Rattle.brackets.proofs.Laws.{said, bracket-is, by-whole}
 
 -- ---- whether the block is inline, and whether there is room
 

@@ -16,14 +16,10 @@ use Rattle.indentation.specs.Of.{indentationOf}
 use Rattle.query.specs.Query
 use Rattle.query.specs.declared.Value.{Value}
 use Rattle.query.proofs.Halves as halves
-use Rattle.around.specs.Readable.{Readable, sheeted-readable}
 use Rattle.state.specs.declared.State.{State as Code}
 use Rattle.state.specs.declared.Context.{Context}
-use Rattle.state.specs.Of.{valueIn, stateOf, withText, Known, Ready, envIn, hereIn, Handled}
+use Rattle.state.specs.Of.{valueIn, stateOf, withText, Ready, envIn, hereIn, Handled}
 use Rattle.state.proofs.Laws.{by-value, level-is}
-
-pub known-readable : (s : List ℕ) (x : Context) → Known s x → Readable s (x .base) (x .counts .tokens)
-known-readable s x known = rw (known .base) (sheeted-readable s (x .counts) (known .sheeted))
 
 -- ---- a test that stops at its first half
 

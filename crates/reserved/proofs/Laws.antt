@@ -31,7 +31,6 @@ use Rattle.inline_block.specs.Of.{inlineBlockOf}
 use Rattle.query.specs.Query
 use Rattle.query.specs.declared.Value.{Value}
 use Rattle.query.proofs.Halves as halves
-use Rattle.around.specs.Readable.{Readable, sheeted-readable}
 use Rattle.keeps.specs.CaseOf.{caseOf, rules-case}
 use Rattle.state.specs.declared.State.{State as Code}
 use Rattle.state.specs.declared.Context.{Context}
@@ -134,10 +133,6 @@ pub by-breaks : (comment active b : Bool) (limit : Limit) (n : ℕ) → comment 
 by-breaks comment active b limit n p q e = e ∙ rw (p, q)
 
 -- ---- the word
-
--- what the readers around a token ask
-pub readable : (s : List ℕ) (x : Context) → Known s x → Readable s (x .base) (x .counts .tokens)
-readable s x known = rw (known .base) (sheeted-readable s (x .counts) (known .sheeted))
 
 module _ (s : List ℕ) (x : Context) (i : ℕ) (known : Known s x) (p : Place) (e : p ≡ tokenAt s i .value) where
   pub place-inside : i < x .counts .tokens → Inside s (bodyAt (x .counts)) p

@@ -18,6 +18,8 @@ use Rattle.text.specs.declared.Text.{Text as CodeText}
 use Rattle.indentation.specs.Of.{indentationOf, Stands}
 use Rattle.indentation.specs.declared.Indentation.{Indentation as Stacks}
 use Rattle.query.proofs.Halves.{halves}
+use Rattle.tokens.specs.Placed.{Within}
+use Rattle.around.specs.Readable.{Readable, sheeted-readable, readable-within}
 use Rattle.state.specs.declared.State.{State as Code}
 use Rattle.state.specs.declared.Context.{Context}
 use Rattle.state.specs.Words.{onWords}
@@ -77,3 +79,10 @@ module _ (s : List ℕ) (x : Context) (i : ℕ) (f : Env → Here → State → 
 pub level-is : (s : List ℕ) (base : ℕ) (st : Code) (d : List ℕ) (b : Bool) → indentLevel b (stateOf s base st d .indentation) ≡ indentLevel b (indentationOf (st .indentation))
 unfolding stateOf onWords indentLevel
 level-is s base st d b = refl
+
+-- what the readers around a token ask, of a sheet in its context
+pub known-readable : (s : List ℕ) (x : Context) → Known s x → Readable s (x .base) (x .counts .tokens)
+known-readable s x known = rw (known .base) (sheeted-readable s (x .counts) (known .sheeted))
+
+pub known-within : (s : List ℕ) (x : Context) (i : ℕ) → Known s x → i < x .counts .tokens → Within s (x .base) i
+known-within s x i known here = readable-within (known-readable s x known) here

@@ -9,7 +9,7 @@ use Rattle.rules.specs.declared.IndentType.the-variants.{Top, Block, FoldedBloc
 use Rattle.rules.specs.declared.SpanInfo.{SpanInfo}
 use Rattle.rules.specs.Base.{if_then_else_}
 use Rattle.rules.specs.InlineBlock.{full}
-use Rattle.rules.specs.Indentation.{Indentation, PreviousTokens, Closed, noIndentation, noPrevious, increaseTopLevel, increaseBlockLevel, popTop, decreaseTopLevel, popBlock, decreaseBlockLevel, markReserved, markTopLevel, setPreviousReserved, setPreviousTopLevel, lastReserved, lastTopLevel, previousReserved, previousTopLevelReserved}
+use Rattle.rules.specs.Indentation.{Indentation, indentLevel, PreviousTokens, Closed, noIndentation, noPrevious, increaseTopLevel, increaseBlockLevel, popTop, decreaseTopLevel, popBlock, decreaseBlockLevel, markReserved, markTopLevel, setPreviousReserved, setPreviousTopLevel, lastReserved, lastTopLevel, previousReserved, previousTopLevelReserved}
 
 module _ {A B : Type 0} (f : A → B) where
   abbrev pub onOption : Option A → Option B
@@ -61,11 +61,11 @@ module _ {A B : Type 0} (f : A → B) where
       go (FoldedBlock ∷ ts) = refl
 
   -- what is left of a closed block
-  pub onClosed : Closed A → Closed B
+  abbrev pub onClosed : Closed A → Closed B
   onClosed c = record { folded = c .folded; left = onWords (c .left) }
 
   pop-words : (ts : List IndentType) (sp : List ℕ) (pr : List (PreviousTokens A)) → onClosed (popBlock ts sp pr) ≡ popBlock ts sp (map onPrevious pr)
-  unfolding onClosed onWords popBlock
+  unfolding onWords popBlock
   pop-words [] sp pr = refl
   pop-words (Top ∷ ts) sp pr = rw (← tail-map) (pop-words ts (tail sp) (tail pr))
   pop-words (Block ∷ ts) sp pr = rw tail-map
@@ -112,3 +112,8 @@ module _ {A B : Type 0} (f : A → B) where
   pub last-top-level : (i : Indentation A) → previousTopLevelReserved (onWords i) ≡ previousTopLevelReserved i
   unfolding onWords previousTopLevelReserved
   last-top-level i = last-span (i .previous)
+
+  -- levels do not hang on the words
+  pub level-words : (b : Bool) (i : Indentation A) → indentLevel b (onWords i) ≡ indentLevel b i
+  unfolding onWords indentLevel
+  level-words b i = refl

@@ -22,8 +22,6 @@ use Rattle.rules.specs.InlineBlock.{curLen, full}
 use Rattle.rules.specs.Formatter.{spanInfo, newlineBefore, formatTopLevelReservedWord, formatTopLevelReservedWordNoIndent, formatNewlineAfterReservedWord}
 use Rattle.text.specs.Held.{textOf, Laid}
 use Rattle.text.specs.declared.Text.{Text as CodeText}
-use Rattle.tokens.specs.Placed.{Within}
-use Rattle.around.specs.Readable.{readable-within}
 use Rattle.indentation.specs.Of.{spanIn, indentationOf, Stands}
 use Rattle.indentation.specs.declared.Indentation.{Indentation as Stacks}
 use Rattle.indentation.specs.declared.TopLevel.{TopLevel}
@@ -40,7 +38,7 @@ use Rattle.state.specs.Below.{Below, below-up, top-below, untop-below, top-leve
 use Rattle.state.specs.Of.{valueIn, wordOf, stateOf, withIndentation, Known, Ready, envIn, hereIn, Handled}
 use Rattle.state.proofs.Laws.{by-halves}
 use Rattle.reserved.specs.Inlined.{whenI}
-use Rattle.reserved.proofs.Laws.{readable, when-below, when-words, level-words, full-words, written, word-is}
+use Rattle.reserved.proofs.Laws.{when-below, when-words, level-words, full-words, written, word-is}
 use Rattle.top_level.specs.declared.Levels.{Levels}
 use Rattle.top_level.specs.Levels.{onSpan, outOf, intoOf, Turned}
 
@@ -74,9 +72,6 @@ level-few s x i level known here h = let f = known .sheeted .few .tokens in omeg
 
 pub number-few : (s : List ℕ) (x : Context) (i : ℕ) → Known s x → i < x .counts .tokens → i < 65535
 number-few s x i known here = let f = known .sheeted .few .tokens in omega arith
-
-pub word-within : (s : List ℕ) (x : Context) (i : ℕ) → Known s x → i < x .counts .tokens → Within s (x .base) i
-word-within s x i known here = readable-within (readable s x known) here
 
 pub none-longer : (most len : ℕ) (last : TopLevel) → last ≡ top.Nothing → true ≡ newlineBefore (limits.Some most) (spanIn last) len
 unfolding newlineBefore spanIn

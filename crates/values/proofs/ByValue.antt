@@ -2,23 +2,18 @@
 use mathlib.Core.Path.{_≡_, _∙_}
 use mathlib.Core.Bool.{Bool, true, false}
 use mathlib.Core.List.{List}
-use Prim.Native.Nat.{ℕ, _<_}
+use Prim.Native.Nat.{ℕ}
 use Prim.Native.String.{String}
 use lib.ListN.{length}
 use Rattle.rules.specs.Base.{same}
 use Rattle.rules.specs.Bytes.{bytes}
-use Rattle.rules.specs.Tokens.{Here}
 use Rattle.rules.specs.Sheet.{Env}
 use Rattle.rules.specs.State.{State, choose}
 use Rattle.rules.specs.Formatter.{formatWithSpaces, formatWithSpaceAfter, formatWithoutSpaces, formatComma, formatQuerySeparator, formatByValue}
-use Rattle.tokens.specs.Placed.{Within}
 use Rattle.state.specs.declared.State.{State as Code}
 use Rattle.state.specs.declared.Context.{Context}
-use Rattle.state.specs.Of.{wordOf, stateOf, Known, envIn, hereIn, Handled}
+use Rattle.state.specs.Of.{wordOf, stateOf, envIn, Handled}
 use Rattle.values.specs.On.{onValue}
-
-pub known-within : (s : List ℕ) (x : Context) (i : ℕ) → Known s x → i < x .counts .tokens → Within s (x .base) i
-known-within s x i known here = rw (known .base) (known .sheeted .tokens .within i here)
 
 module _ (s : List ℕ) (x : Context) (i : ℕ) (st : Code) (d : List ℕ) (r : Code) (q : List ℕ) where
   abbrev ruled : (Env → List ℕ → State → State) → State

@@ -6,9 +6,9 @@ use Prim.Native.Nat.{ℕ, suc, _+_, _≤_, _<_}
 use native.Mathlib.Numerals.{add-one}
 use native.Mathlib.Omega.{arith}
 use lib.ListN.{length}
+use Rattle.rules.specs.Base.{if_then_else_}
 use Rattle.rules.specs.declared.Counts.{Counts}
 use Rattle.rules.specs.declared.Token.{Token}
-use Rattle.rules.specs.Base.{if_then_else_}
 use Rattle.rules.specs.Words.{tokenAt, bodyAt}
 use Rattle.rules.specs.Sheet.{part, keyRead, paramsOf, envOf}
 use Rattle.rules.specs.Params.{get, advances, offends}

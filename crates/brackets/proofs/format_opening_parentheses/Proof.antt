@@ -1,13 +1,13 @@
 use denote.Ref.{now}
 use native.Mathlib.Omega.{arith}
-use Rattle.brackets.proofs.Laws.{readable-in}
+use Rattle.state.proofs.Laws.{known-readable}
 use Rattle.brackets.proofs.OpeningLaws.{by-opening}
 use borrow.Author.Needs.{needs}
 use Rattle.brackets.proofs.format_opening_parentheses.Statement.{statement}
 use Rattle.brackets.proofs.format_opening_parentheses.Tie as tie
 
 build-info-requires : tie.Need-build-info-requires
-build-info-requires c κs = search (needs, readable-in)
+build-info-requires c κs = search (needs, known-readable)
 
 begins-inline-requires : tie.Need-begins-inline-requires
 begins-inline-requires c κs = search needs

@@ -1,4 +1,4 @@
-use Rattle.brackets.proofs.Laws.{readable-in}
+use Rattle.state.proofs.Laws.{known-readable}
 use Rattle.brackets.proofs.OpeningLaws.{by-inlined, by-no-limit, by-no-top, by-last}
 use borrow.Author.Needs.{needs}
 use Rattle.brackets.proofs.is_folded.Statement.{statement}
@@ -14,7 +14,7 @@ returns-2 : tie.Need-returns-2
 returns-2 c = search (needs, by-no-limit)
 
 after-top-level-word-requires : tie.Need-after-top-level-word-requires
-after-top-level-word-requires c κs = search (needs, readable-in)
+after-top-level-word-requires c κs = search (needs, known-readable)
 
 returns-3 : tie.Need-returns-3
 returns-3 c = search (needs, by-no-top)

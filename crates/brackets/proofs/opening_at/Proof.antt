@@ -1,5 +1,5 @@
 use Rattle.state.proofs.Laws.{value-inside}
-use Rattle.brackets.proofs.Laws.{readable-in}
+use Rattle.state.proofs.Laws.{known-readable}
 use Rattle.brackets.proofs.OpeningLaws.{by-opening-at}
 use borrow.Author.Needs.{needs}
 use Rattle.brackets.proofs.opening_at.Statement.{statement}
@@ -15,10 +15,10 @@ is-over-requires : tie.Need-is-over-requires
 is-over-requires c κs = search needs
 
 cuts-before-requires : tie.Need-cuts-before-requires
-cuts-before-requires c κs = search (needs, readable-in)
+cuts-before-requires c κs = search (needs, known-readable)
 
 blank-between-requires : tie.Need-blank-between-requires
-blank-between-requires c κs = search (needs, readable-in)
+blank-between-requires c κs = search (needs, known-readable)
 
 slice-aggregate-is-lower : tie.Need-slice-aggregate-is-lower
 slice-aggregate-is-lower c = search needs

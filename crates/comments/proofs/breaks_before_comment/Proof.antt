@@ -1,4 +1,5 @@
-use Rattle.comments.proofs.Laws.{known-readable, by-neither, by-other}
+use Rattle.state.proofs.Laws.{known-readable}
+use Rattle.comments.proofs.Laws.{by-neither, by-other}
 use borrow.Author.Needs.{needs}
 use Rattle.comments.proofs.breaks_before_comment.Statement.{statement}
 use Rattle.comments.proofs.breaks_before_comment.Tie as tie

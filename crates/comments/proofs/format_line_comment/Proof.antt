@@ -1,6 +1,7 @@
 use denote.Ref.{now}
 use Rattle.state.proofs.Laws.{value-inside}
-use Rattle.comments.proofs.Laws.{known-readable, by-line-comment}
+use Rattle.state.proofs.Laws.{known-readable}
+use Rattle.comments.proofs.Laws.{by-line-comment}
 use borrow.Author.Needs.{needs}
 use Rattle.comments.proofs.format_line_comment.Statement.{statement}
 use Rattle.comments.proofs.format_line_comment.Tie as tie

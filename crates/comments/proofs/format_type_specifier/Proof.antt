@@ -1,6 +1,7 @@
 use denote.Ref.{now}
 use Rattle.state.proofs.Laws.{value-inside}
-use Rattle.comments.proofs.Laws.{known-readable, by-type-specifier}
+use Rattle.state.proofs.Laws.{known-readable}
+use Rattle.comments.proofs.Laws.{by-type-specifier}
 use borrow.Author.Needs.{needs}
 use Rattle.comments.proofs.format_type_specifier.Statement.{statement}
 use Rattle.comments.proofs.format_type_specifier.Tie as tie

@@ -1,6 +1,7 @@
 use denote.Ref.{now}
 use Rattle.state.proofs.Laws.{value-inside}
-use Rattle.reserved.proofs.Laws.{readable, by-newline}
+use Rattle.state.proofs.Laws.{known-readable}
+use Rattle.reserved.proofs.Laws.{by-newline}
 use borrow.Author.Needs.{needs}
 use Rattle.reserved.proofs.format_newline_reserved_word.Statement.{statement}
 use Rattle.reserved.proofs.format_newline_reserved_word.Tie as tie
@@ -12,7 +13,7 @@ case-of-requires : tie.Need-case-of-requires
 case-of-requires c κs = search needs
 
 after-line-comment-requires : tie.Need-after-line-comment-requires
-after-line-comment-requires c κs = search (needs, readable)
+after-line-comment-requires c κs = search (needs, known-readable)
 
 is-active-requires : tie.Need-is-active-requires
 is-active-requires c κs = search needs

@@ -1,7 +1,8 @@
 use native.Mathlib.Omega.{arith}
 use denote.Ref.{now}
 use Rattle.state.proofs.Laws.{value-inside}
-use Rattle.top_level.proofs.Laws.{word-within, number-few, by-newline-after}
+use Rattle.state.proofs.Laws.{known-within}
+use Rattle.top_level.proofs.Laws.{number-few, by-newline-after}
 use borrow.Author.Needs.{needs}
 use Rattle.top_level.proofs.format_newline_after_reserved_word.Statement.{statement}
 use Rattle.top_level.proofs.format_newline_after_reserved_word.Tie as tie
@@ -21,7 +22,7 @@ span-info-requires c κs = search needs
 value-len-requires : tie.Need-value-len-requires
 value-len-requires c κs =
     let start = c .before .before .before .before .before .before .before .before .before in
-    word-within (now (start .args .sheet)) (start .args .x) (start .args .i) (start .pre .known) (start .pre .here)
+    known-within (now (start .args .sheet)) (start .args .x) (start .args .i) (start .pre .known) (start .pre .here)
 
 previous-top-level-reserved-requires : tie.Need-previous-top-level-reserved-requires
 previous-top-level-reserved-requires c κs = search needs

@@ -1,4 +1,5 @@
-use Rattle.values.proofs.ByValue.{known-within, is-comma, is-colon, is-dot, is-semicolon, is-other}
+use Rattle.state.proofs.Laws.{known-within}
+use Rattle.values.proofs.ByValue.{is-comma, is-colon, is-dot, is-semicolon, is-other}
 use borrow.Author.Needs.{needs}
 use Rattle.values.proofs.format_by_value.Statement.{statement}
 use Rattle.values.proofs.format_by_value.Tie as tie
