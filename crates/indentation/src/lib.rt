@@ -116,6 +116,12 @@ impl Indentation {
         }
     }
 
+    pub fn reset_indentation(self) -> Self
+        ensures { λ r. ⌜ Stands noIndentation r ⌝ }
+    {
+        Self::new()
+    }
+
     pub fn increase_top_level(mut self, span: SpanInfo) -> Self
         requires { ⌜ Clean self ⌝ }
         ensures { λ r. ⌜ Stands (increaseTopLevel span (indentationOf self)) r ⌝ }

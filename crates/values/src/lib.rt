@@ -152,10 +152,11 @@ pub fn format_query_separator(
     ensures { λ r. ⌜ Handled (now (sheet .entry)) x i (onValue formatQuerySeparator) s (now (query .entry)) r (now (query .exit)) ⌝ }
 {
     let v = value_of(sheet, x, i);
+    let stacks = s.indentation;
     let t = s.text;
     let o = x.options;
     let u = query::format_query_separator(query, t, sheet, v, o.lines_between_queries);
-    s.with_indentation(u, Indentation::new())
+    s.with_indentation(u, stacks.reset_indentation())
 }
 
 // ---- a placeholder

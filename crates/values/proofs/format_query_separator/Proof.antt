@@ -11,8 +11,8 @@ value-of-requires c κs = search needs
 format-query-separator-requires : tie.Need-format-query-separator-requires
 format-query-separator-requires c κs = search (needs, value-inside)
 
-new-requires : tie.Need-new-requires
-new-requires c κs = search needs
+reset-indentation-requires : tie.Need-reset-indentation-requires
+reset-indentation-requires c κs = search needs
 
 with-indentation-requires : tie.Need-with-indentation-requires
 with-indentation-requires c κs = search needs
@@ -22,9 +22,9 @@ same-length c = search needs
 
 returns : tie.Need-returns
 returns c =
-    let start = c .before .before .before .before .before .before .before .before .before .before .before in
-    by-separator (now (start .args .sheet)) (start .args .x) (start .args .i) (start .args .s) _ (start .pre) _ (c .before .before .before .before .before .before .before .before .value-of .ensures) _ _ _ _
-    (c .before .before .before .before .format-query-separator .ensures) (c .before .new .ensures) (c .with-indentation .ensures)
+    let start = c .before .before .before .before .before .before .before .before .before .before .before .before in
+    by-separator (now (start .args .sheet)) (start .args .x) (start .args .i) (start .args .s) _ (start .pre) _ (c .before .before .before .before .before .before .before .before .before .value-of .ensures) _ _ _ _
+    (c .before .before .before .before .format-query-separator .ensures) (c .before .reset-indentation .ensures) (c .with-indentation .ensures)
 
 pub format-query-separator-spec : {M : Type 1} → statement M
 format-query-separator-spec =
@@ -32,7 +32,7 @@ format-query-separator-spec =
     (tie.spec
     value-of-requires
     format-query-separator-requires
-    new-requires
+    reset-indentation-requires
     with-indentation-requires
     same-length
     returns)
