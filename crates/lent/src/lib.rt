@@ -1,0 +1,96 @@
+// params.rs, in two forms that are lent: the counter behind `&mut`, and the parameter list as a slice of records.
+ghost use mathlib.Core.Path.{_≡_};
+ghost use Prim.Native.Nat.{_<_};
+ghost use lib.ListN.{length, getD};
+ghost use Rattle.rules.specs.Words.{bodyAt};
+ghost use Rattle.rules.specs.Sheet.{part};
+ghost use Rattle.tokens.specs.Placed.{Inside};
+ghost use Rattle.records.specs.Sheeted.{Sheeted};
+ghost use Rattle.params.specs.Entries.{KeyIn, shownOf};
+ghost use Rattle.lent.specs.Listed.{noParam, numbered, inBodies, picked, namedIn};
+use params::get;
+use places::same_places;
+use records::body_at;
+use rules::Counts;
+use rules::Place;
+use rules::Token;
+use tokens::to_usize;
+
+// ---- the counter
+
+pub struct Counter {
+    pub at: u32,
+}
+
+// What is shown; the counter is read, and moved as the lookup says.
+pub fn get_next(sheet: &[u8], c: Counts, t: Token, counter: &mut Counter) -> Place
+    requires { ⌜ (Sheeted (now sheet) c) × (KeyIn (now sheet) (bodyAt c) (t .key)) × (now counter .at < 4294967295) ⌝ }
+    ensures { λ r. ⌜ (r ≡ shownOf (now (sheet .entry)) c t (now (counter .entry) .at) .place) × (now (counter .exit) .at ≡ shownOf (now (sheet .entry)) c t (now (counter .entry) .at) .index) ⌝ }
+{
+    let index = counter.at;
+    let shown = get(sheet, c, t, index);
+    counter.at = shown.index;
+    shown.place
+}
+
+// ---- the list
+
+// A name's place and a value's.
+pub struct Param {
+    pub name: Place,
+    pub value: Place,
+}
+
+// The value of record n, or the caller's place.
+pub fn by_number(ps: &[Param], n: usize, own: Place) -> Place
+    ensures { λ r. ⌜ r ≡ numbered (now (ps .entry)) n own ⌝ }
+{
+    if n < ps.len() {
+        return ps[n].value;
+    }
+    own
+}
+
+fn in_bodies(c: Counts, p: Place) -> bool
+    ensures { λ r. ⌜ r ≡ inBodies c p ⌝ }
+{
+    let end = to_usize(p.start) + to_usize(p.len);
+    end <= c.bytes
+}
+
+// One record's value where its name equals, else what the others give.
+fn pick(sheet: &[u8], c: Counts, p: Param, name: Place, others: Place) -> Place
+    requires { ⌜ (Sheeted (now sheet) c) × (Inside (now sheet) (bodyAt c) name) ⌝ }
+    ensures { λ r. ⌜ r ≡ picked (now (sheet .entry)) c (part (now (sheet .entry)) (bodyAt c) name) p others ⌝ }
+{
+    let at = p.name;
+    if in_bodies(c, at) {
+        if same_places(sheet, body_at(c), at, name) {
+            return p.value;
+        }
+    }
+    others
+}
+
+// The same of record i.
+fn pick_at(sheet: &[u8], c: Counts, ps: &[Param], i: usize, name: Place, others: Place) -> Place
+    requires { ⌜ (Sheeted (now sheet) c) × (Inside (now sheet) (bodyAt c) name) × (i < length (now ps)) ⌝ }
+    ensures { λ r. ⌜ r ≡ picked (now (sheet .entry)) c (part (now (sheet .entry)) (bodyAt c) name) (getD (now (ps .entry)) i noParam) others ⌝ }
+{
+    let p = ps[i];
+    pick(sheet, c, p, name, others)
+}
+
+// The value of the first record whose name equals, or the caller's place.
+pub fn by_name(sheet: &[u8], c: Counts, ps: &[Param], name: Place, own: Place) -> Place
+    requires { ⌜ (Sheeted (now sheet) c) × (Inside (now sheet) (bodyAt c) name) ⌝ }
+    ensures { λ r. ⌜ r ≡ namedIn (now (sheet .entry)) c (part (now (sheet .entry)) (bodyAt c) name) (now (ps .entry)) own ⌝ }
+{
+    let mut found = own;
+    let mut i = ps.len();
+    while 0 < i {
+        found = pick_at(sheet, c, ps, i - 1, name, found);
+        i = i - 1;
+    }
+    found
+}
