@@ -1,5 +1,6 @@
 /* Hard use: random and damaged sheets, the sheet and the buffer each ending at a page that may not be touched. Any byte read or written outside them ends the
  * program. Checked besides: a refusal leaves every count and the whole buffer zero; a text has zero after it; the same call gives the same answer. */
+#define _DEFAULT_SOURCE
 #include <inttypes.h>
 #include <stdio.h>
 #include <stdlib.h>
@@ -116,9 +117,9 @@ int main(int argc, char **argv)
         struct twigmantle_report ample = lay(sheet, n, texts, 1u << 18, turn);
         counts[ample.refusal]++;
         for (uint32_t i = 0; i < 4; i++) { /* buffers from 0 up around what is needed */
-            size_t room = i == 0 ? under(4) : (size_t)ample.length + under(12);
+            size_t need = (size_t)ample.length, room = i == 0 ? under(4) : (need > 4 ? need - 4 : 0) + under(12);
             struct twigmantle_report r = lay(sheet, n, texts, room, turn);
-            if (r.refusal == 0 && memcmp(&r, &ample, sizeof r) != 0 && (r.length != ample.length || r.lines != ample.lines || r.width != ample.width))
+            if (r.refusal == 0 && (r.length != ample.length || r.lines != ample.lines || r.width != ample.width))
                 wrong("another answer for another buffer", turn);
             counts[9] += r.refusal == 9;
         }
