@@ -165,13 +165,13 @@ fn topped(b: BlockInfo) -> BlockInfo
 
 // ---- the block
 
-fn either(a: bool, b: bool) -> bool
-    ensures { λ r. ⌜ r ≡ (a || b) ⌝ }
+fn found_yet(before: bool, here: bool) -> bool
+    ensures { λ r. ⌜ r ≡ (before || here) ⌝ }
 {
-    if a {
+    if before {
         return true;
     }
-    b
+    here
 }
 
 fn is_forbidden_token(sheet: &[u8], base: usize, i: usize, part: Part) -> bool
@@ -210,12 +210,12 @@ pub fn build_info(sheet: &[u8], base: usize, n: usize, i: usize) -> BlockInfo
         }
         let level = level_after(part, b.level);
         b.level = level;
-        b.has_reserved_tokens = either(b.has_reserved_tokens, is_newline(part));
+        b.has_reserved_tokens = found_yet(b.has_reserved_tokens, is_newline(part));
         if closes(part, level) {
             return b;
         }
         let forbidden = is_forbidden_token(sheet, base, j, part);
-        b.has_forbidden_tokens = either(b.has_forbidden_tokens, forbidden);
+        b.has_forbidden_tokens = found_yet(b.has_forbidden_tokens, forbidden);
         j += 1;
     }
     b

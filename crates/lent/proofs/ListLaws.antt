@@ -1,6 +1,7 @@
 -- Laws of the search by name, over plain variables. Assumes nothing.
 use mathlib.Core.Path.{_≡_, refl, ap}
 use mathlib.Core.Bool.{Bool, true, false, not}
+use mathlib.Core.Option.{Option, some}
 use mathlib.Core.List.{List, [], _∷_}
 use Prim.Native.Nat.{ℕ, zero, suc, _+_, _≤_, _<_}
 use native.Mathlib.Omega.{arith}
@@ -11,21 +12,17 @@ use Rattle.rules.specs.declared.Place.{Place}
 use Rattle.rules.specs.declared.Counts.{Counts}
 use Rattle.rules.specs.Base.{if_then_else_, same}
 use Rattle.rules.specs.Words.{bodyAt}
+use Rattle.rules.specs.Checks.{inBody}
 use Rattle.rules.specs.Sheet.{part}
 use Rattle.tokens.specs.Placed.{Inside}
 use Rattle.records.specs.Sheeted.{Sheeted}
 use Rattle.lent.specs.declared.Param.{Param}
-use Rattle.lent.specs.Listed.{noParam, numbered, inBodies, hasBytes, picked, namedIn}
+use Rattle.lent.specs.Listed.{noParam, valueOr, numbered, hasBytes, picked, namedIn}
 
 -- ---- one record
 
-pub in-bodies : (c : Counts) (p : Place) (a b : ℕ) → a ≡ p .start → b ≡ p .len → leb (a + b) (c .bytes) ≡ inBodies c p
-unfolding inBodies
-in-bodies c p a b e f = rw (e, f)
-
 module _ (s : List ℕ) (c : Counts) (p : Place) (b : ℕ) (at : b ≡ bodyAt c) where
-  pub in-inside : (r : Bool) → r ≡ inBodies c p → r ≡ true → Sheeted s c → Inside s b p
-  unfolding inBodies
+  pub in-inside : (r : Bool) → r ≡ inBody p (c .bytes) → r ≡ true → Sheeted s c → Inside s b p
   in-inside r d e h =
       let t : leb (p .start + p .len) (c .bytes) ≡ true = cc in
       let m : p .start + p .len ≤ c .bytes = leb-true _ _ t in
@@ -34,7 +31,7 @@ module _ (s : List ℕ) (c : Counts) (p : Place) (b : ℕ) (at : b ≡ bodyAt c)
   pub inside-at : Inside s (bodyAt c) p → Inside s b p
   inside-at h = rw at h
 
-module _ (s : List ℕ) (c : Counts) (name : Place) (p : Param) (others : Place) (r : Bool) (d : r ≡ inBodies c (p .name)) where
+module _ (s : List ℕ) (c : Counts) (name : Place) (p : Param) (others : Place) (r : Bool) (d : r ≡ inBody (p .name) (c .bytes)) where
   module _ (b : ℕ) (at : b ≡ bodyAt c) (f : Bool) (e : f ≡ same (part s b (p .name)) (part s b name)) where
     pub pick-same : r ≡ true → f ≡ true → p .value ≡ picked s c (part s (bodyAt c) name) p others
     unfolding picked hasBytes
@@ -73,10 +70,15 @@ fails true f = absurd f
 fails false _ = refl
 
 module _ (s : List ℕ) (c : Counts) (n : List ℕ) (own : Place) where
+  -- a record, and then the others: what one search gives
+  pick-step : (b : Bool) (p : Param) (o : Option Param) → (if b then p .value else valueOr own o) ≡ valueOr own (if b then some p else o)
+  pick-step true p o = refl
+  pick-step false p o = refl
+
   pub drop-step : (ps : List Param) (i : ℕ) → i < length ps → picked s c n (getD ps i noParam) (namedIn s c n (drop (suc i) ps) own) ≡ namedIn s c n (drop i ps) own
-  unfolding namedIn
+  unfolding namedIn picked
   drop-step [] i l = absurd (omega arith)
-  drop-step (p ∷ ps) zero l = refl
+  drop-step (p ∷ ps) zero l = pick-step (hasBytes s c n (p .name)) p _
   drop-step (p ∷ ps) (suc i) l = drop-step ps i (omega arith)
 
   pub drop-all : (ps : List Param) → namedIn s c n (drop (length ps) ps) own ≡ own

@@ -1,12 +1,13 @@
 -- A parameter list of records, and what a search of it gives: the place of a value, or a place of the caller's.
-use mathlib.Core.Bool.{Bool, true, false}
-use mathlib.Core.List.{List, [], _∷_}
-use Prim.Native.Nat.{ℕ, zero, suc, _+_}
-use lib.Dec.{leb}
+use mathlib.Core.Bool.{Bool, false}
+use mathlib.Core.Option.{Option, none, some}
+use mathlib.Core.List.{List}
+use Prim.Native.Nat.{ℕ}
 use Rattle.rules.specs.declared.Place.{Place}
 use Rattle.rules.specs.declared.Counts.{Counts}
-use Rattle.rules.specs.Base.{if_then_else_, same}
+use Rattle.rules.specs.Base.{if_then_else_, same, first, nth?}
 use Rattle.rules.specs.Words.{bodyAt}
+use Rattle.rules.specs.Checks.{inBody}
 use Rattle.rules.specs.Sheet.{part}
 use Rattle.lent.specs.declared.Param.{Param}
 
@@ -17,22 +18,21 @@ noPlace = record { start = 0; len = 0 }
 abbrev pub noParam : Param
 noParam = record { name = noPlace; value = noPlace }
 
+-- the value of a record, or the caller's place where there is none
+abbrev pub valueOr : Place → Option Param → Place
+valueOr own none = own
+valueOr own (some p) = p .value
+
 -- ---- by number
 
 unfoldable pub numbered : List Param → ℕ → Place → Place
-numbered [] n own = own
-numbered (p ∷ ps) zero own = p .value
-numbered (p ∷ ps) (suc n) own = numbered ps n own
+numbered ps n own = valueOr own (nth? ps n)
 
 -- ---- by name
 
--- a place lies in the bodies
-unfoldable pub inBodies : Counts → Place → Bool
-inBodies c p = leb (p .start + p .len) (c .bytes)
-
 -- a place has the bytes n; one outside the bodies equals no name
 unfoldable pub hasBytes : List ℕ → Counts → List ℕ → Place → Bool
-hasBytes s c n p = if inBodies c p then same (part s (bodyAt c) p) n else false
+hasBytes s c n p = if inBody p (c .bytes) then same (part s (bodyAt c) p) n else false
 
 -- one record's value where its name is n, else what the others give
 unfoldable pub picked : List ℕ → Counts → List ℕ → Param → Place → Place
@@ -40,5 +40,4 @@ picked s c n p others = if hasBytes s c n (p .name) then p .value else others
 
 -- the first record whose name is n
 unfoldable pub namedIn : List ℕ → Counts → List ℕ → List Param → Place → Place
-namedIn s c n [] own = own
-namedIn s c n (p ∷ ps) own = picked s c n p (namedIn s c n ps own)
+namedIn s c n ps own = valueOr own (first (λ (p : Param). hasBytes s c n (p .name)) ps)

@@ -12,11 +12,12 @@ use Rattle.rules.specs.declared.Place.{Place}
 use Rattle.rules.specs.declared.Counts.{Counts}
 use Rattle.rules.specs.Base.{if_then_else_, same, first, nth?, orElse}
 use Rattle.rules.specs.Words.{placeAt, paramsAt, bodyAt}
+use Rattle.rules.specs.Checks.{inBody}
 use Rattle.rules.specs.Sheet.{part, listOf, nameOf, valueOf, paramOf, Param as Read}
 use Rattle.rules.specs.Params.{valueIn, byName}
 use Rattle.records.specs.Sheeted.{Sheeted}
 use Rattle.lent.specs.declared.Param.{Param}
-use Rattle.lent.specs.Listed.{numbered, inBodies, hasBytes, picked, namedIn}
+use Rattle.lent.specs.Listed.{valueOr, numbered, hasBytes, namedIn}
 
 -- record i of the sheet's parameter table
 abbrev pub recordAt : List ℕ → Counts → ℕ → Param
@@ -41,21 +42,20 @@ module _ (s : List ℕ) (c : Counts) (own : Place) where
   -- ---- by name
 
   -- the names of the table lie in the bodies
-  name-in : Sheeted s c → (i : ℕ) → i < c .params → inBodies c (recordAt s c i .name) ≡ true
-  unfolding inBodies
+  name-in : Sheeted s c → (i : ℕ) → i < c .params → inBody (recordAt s c i .name) (c .bytes) ≡ true
   name-in h i l =
       let k : length s ≡ bodyAt c + c .bytes = h .long in
       let m : bodyAt c + (placeAt s (paramsAt c + 16 * i) .start + placeAt s (paramsAt c + 16 * i) .len) ≤ length s = h .params .within i l .name-in .inside in le-leb (placeAt s (paramsAt c + 16 * i) .start + placeAt s (paramsAt c + 16 * i) .len) (c .bytes) (omega arith)
 
   module _ (n : List ℕ) where
-    choose : (b : Bool) (j : ℕ) (others : Place) (o : Option Read) → part s (bodyAt c) others ≡ orElse (part s (bodyAt c) own) (valueIn o)
-        → part s (bodyAt c) (if b then recordAt s c j .value else others) ≡ orElse (part s (bodyAt c) own) (valueIn (if b then some (paramOf s c j) else o))
+    choose : (b : Bool) (j : ℕ) (q : Option Param) (o : Option Read) → part s (bodyAt c) (valueOr own q) ≡ orElse (part s (bodyAt c) own) (valueIn o)
+        → part s (bodyAt c) (valueOr own (if b then some (recordAt s c j) else q)) ≡ orElse (part s (bodyAt c) own) (valueIn (if b then some (paramOf s c j) else o))
     unfolding valueIn valueOf
-    choose true j others o h = refl
-    choose false j others o h = h
+    choose true j q o h = refl
+    choose false j q o h = h
 
     named-from : Sheeted s c → (j k : ℕ) → j + k ≤ c .params → part s (bodyAt c) (namedIn s c n (listOf (recordAt s c) j k) own) ≡ orElse (part s (bodyAt c) own) (valueIn (first (λ (p : Read). same (p .name) n) (listOf (paramOf s c) j k)))
-    unfolding namedIn picked hasBytes listOf nameOf valueIn
+    unfolding namedIn hasBytes listOf nameOf valueIn
     named-from h j zero l = refl
     named-from h j (suc k) l = rw (name-in h j (omega arith)) (choose (same (nameOf s c j) n) j _ _ (named-from h (suc j) k (omega arith)))
 

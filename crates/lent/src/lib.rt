@@ -7,14 +7,14 @@ ghost use Rattle.rules.specs.Sheet.{part};
 ghost use Rattle.tokens.specs.Placed.{Inside};
 ghost use Rattle.records.specs.Sheeted.{Sheeted};
 ghost use Rattle.params.specs.Entries.{KeyIn, shownOf};
-ghost use Rattle.lent.specs.Listed.{noParam, numbered, inBodies, picked, namedIn};
+ghost use Rattle.lent.specs.Listed.{noParam, numbered, picked, namedIn};
+use offences::in_body;
 use params::get;
 use places::same_places;
 use records::body_at;
 use rules::Counts;
 use rules::Place;
 use rules::Token;
-use tokens::to_usize;
 
 // ---- the counter
 
@@ -51,20 +51,13 @@ pub fn by_number(ps: &[Param], n: usize, own: Place) -> Place
     own
 }
 
-fn in_bodies(c: Counts, p: Place) -> bool
-    ensures { λ r. ⌜ r ≡ inBodies c p ⌝ }
-{
-    let end = to_usize(p.start) + to_usize(p.len);
-    end <= c.bytes
-}
-
 // One record's value where its name equals, else what the others give.
 fn pick(sheet: &[u8], c: Counts, p: Param, name: Place, others: Place) -> Place
     requires { ⌜ (Sheeted (now sheet) c) × (Inside (now sheet) (bodyAt c) name) ⌝ }
     ensures { λ r. ⌜ r ≡ picked (now (sheet .entry)) c (part (now (sheet .entry)) (bodyAt c) name) p others ⌝ }
 {
     let at = p.name;
-    if in_bodies(c, at) {
+    if in_body(at, c.bytes) {
         if same_places(sheet, body_at(c), at, name) {
             return p.value;
         }

@@ -110,7 +110,7 @@ pub fn param_words(s: &[u8], at: usize) -> Offence
 // ---- check 3: places
 
 // Two words as whole numbers: in 64 bits their sum does not wrap.
-fn in_body(p: Place, bytes: usize) -> bool
+pub fn in_body(p: Place, bytes: usize) -> bool
     ensures { λ r. ⌜ r ≡ inBody p bytes ⌝ }
 {
     to_usize(p.start) + to_usize(p.len) <= bytes

@@ -43,8 +43,8 @@ level-after-requires c κs =
 is-newline-requires : tie.Need-is-newline-requires Inv-loop μ-loop
 is-newline-requires c κs = search needs
 
-either-requires : tie.Need-either-requires Inv-loop μ-loop
-either-requires c κs = search needs
+found-yet-requires : tie.Need-found-yet-requires Inv-loop μ-loop
+found-yet-requires c κs = search needs
 
 closes-requires : tie.Need-closes-requires Inv-loop μ-loop
 closes-requires c κs = search needs
@@ -60,8 +60,8 @@ returns c =
 is-forbidden-token-requires : tie.Need-is-forbidden-token-requires Inv-loop μ-loop
 is-forbidden-token-requires c κs = search (needs, readable-within, part-as)
 
-either-requires-2 : tie.Need-either-requires-2 Inv-loop μ-loop
-either-requires-2 c κs = search needs
+found-yet-requires-2 : tie.Need-found-yet-requires-2 Inv-loop μ-loop
+found-yet-requires-2 c κs = search needs
 
 add-j : tie.Need-add-j Inv-loop μ-loop
 add-j c = search needs
@@ -77,8 +77,8 @@ loop-again c =
     let l = m .before .before .before .before in
     let w = by-word (m .before .part-of .result) (u .before .is-top .result) (lengthened (m .value-len .result) (l .loop .b)) (u .if1 .b) (u .before .is-top .ensures) (u .if1 .came) (λ w. (w .0 .taken, w .2 ∙ w .1 .ensures)) (λ w. (w .0 .left, w .1)) in
     measuring-turns _ _ _ _ _ _ (l .loop .inv) (m .before .before .before .loop-test .taken) _ _ _ _ _ _ _ _
-    (m .before .before .kind-at .ensures) (m .before .part-of .ensures) (m .value-len .ensures) w (e .before .before .level-after .ensures) (e .before .is-newline .ensures) (e .either .ensures)
-    (c .before .before .before .closes .ensures) _ _ (l .before .before .pre .0) (c .before .before .if2 .left) (c .before .is-forbidden-token .ensures) (c .either2 .ensures)
+    (m .before .before .kind-at .ensures) (m .before .part-of .ensures) (m .value-len .ensures) w (e .before .before .level-after .ensures) (e .before .is-newline .ensures) (e .found-yet .ensures)
+    (c .before .before .before .closes .ensures) _ _ (l .before .before .pre .0) (c .before .before .if2 .left) (c .before .is-forbidden-token .ensures) (c .found-yet2 .ensures)
 
 returns-2 : tie.Need-returns-2 Inv-loop μ-loop
 returns-2 c = search (needs, measuring-ends)
@@ -98,11 +98,11 @@ build-info-spec =
     topped-requires
     level-after-requires
     is-newline-requires
-    either-requires
+    found-yet-requires
     closes-requires
     returns
     is-forbidden-token-requires
-    either-requires-2
+    found-yet-requires-2
     add-j
     loop-less
     loop-again

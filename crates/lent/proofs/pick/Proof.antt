@@ -3,8 +3,8 @@ use Rattle.lent.proofs.ListLaws.{in-inside, inside-at, pick-same, pick-
 use Rattle.lent.proofs.pick.Statement.{statement}
 use Rattle.lent.proofs.pick.Tie as tie
 
-in-bodies-requires : tie.Need-in-bodies-requires
-in-bodies-requires c κs = search needs
+in-body-requires : tie.Need-in-body-requires
+in-body-requires c κs = search needs
 
 body-at-requires : tie.Need-body-at-requires
 body-at-requires c κs = search needs
@@ -24,4 +24,4 @@ returns-3 c = search (needs, pick-outside)
 pub pick-spec : {M : Type 1} → statement M
 pick-spec =
     tie.close
-    (tie.spec in-bodies-requires body-at-requires same-places-requires returns returns-2 returns-3)
+    (tie.spec in-body-requires body-at-requires same-places-requires returns returns-2 returns-3)
