@@ -14,6 +14,9 @@ fn main() {
         .unwrap_or_else(|e| panic!("no Rust source at {given:?} ({e}): set TWIGMANTLE_RUST"));
     println!("cargo:rerun-if-env-changed=TWIGMANTLE_RUST");
     println!("cargo:rerun-if-changed=build.rs");
+    if env::var_os("CARGO_FEATURE_CALL").is_some() {
+        link(&home.join("../target/staticlib"));
+    }
 
     let mut root = String::new();
     for part in PARTS {
@@ -25,6 +28,15 @@ fn main() {
     fs::write(&watched, watch(&source.join("formatter.rs"))).expect("OUT_DIR can be written");
     root += &module("watched_formatter", &watched);
     fs::write(out.join("oracle_modules.rs"), root).expect("OUT_DIR can be written");
+}
+
+/// The proved call, as `rt staticlib twigmantle` left it.
+fn link(folder: &Path) {
+    let library = folder.join("libtwigmantle.a");
+    assert!(library.exists(), "no {library:?}: run rt staticlib twigmantle first");
+    println!("cargo:rustc-link-search=native={}", folder.display());
+    println!("cargo:rustc-link-lib=static=twigmantle");
+    println!("cargo:rerun-if-changed={}", library.display());
 }
 
 fn module(name: &str, file: &Path) -> String {

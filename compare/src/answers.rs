@@ -49,8 +49,7 @@ fn put(out: &mut Vec<u8>, row: &Row) {
         Answer::Laid { text, lines, width } => (0, 0, text.as_slice(), *lines, *width),
         Answer::Refused(Refusal { number, place }) => (*number, *place, &[][..], 0, 0),
     };
-    let words =
-        [row.bytes.len(), row.room, number as usize, place, text.len(), lines, width];
+    let words = [row.bytes.len(), row.room, number as usize, place, text.len(), lines, width];
     for word in words {
         out.extend_from_slice(&u32::try_from(word).expect("fits a word").to_le_bytes());
     }

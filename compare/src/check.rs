@@ -4,7 +4,7 @@ use std::collections::BTreeMap;
 use std::fs;
 
 use crate::model::{self, Answer, Refusal, Trial};
-use crate::oracle::{self, Panic};
+use crate::oracle::{self, Panic, Read};
 use crate::random::{self, Dice, Made};
 use crate::sheet::{NAMES, Sheet};
 use crate::watched;
@@ -41,7 +41,11 @@ pub fn run(n: u64, seed: u64) -> bool {
         let room = room(&mut dice, peak(&ample.heights));
         let answer = model::answer(&made.bytes, room);
         let compared = compare(&made, &ample).and_then(|how| {
-            buffer(&ample, room, &answer)?;
+            let expected = at_room(&ample, room);
+            if answer != expected {
+                return Err(format!("at {room}, by the heights: {expected:?}"));
+            }
+            call(&made.bytes, &ample, room)?;
             Ok(how)
         });
         match compared {
@@ -56,7 +60,8 @@ pub fn run(n: u64, seed: u64) -> bool {
         }
     }
     tally.print();
-    println!("{n} sheets, seed {seed}: no difference");
+    let with = if cfg!(feature = "call") { ", the call too" } else { "" };
+    println!("{n} sheets, seed {seed}{with}: no difference");
     true
 }
 
@@ -87,25 +92,25 @@ fn compare(made: &Made, ample: &Trial) -> Result<&'static str, String> {
         let flipped = made.sheet.is_none();
         return flipped.then_some("none: flipped").ok_or("a whole sheet is refused".into());
     }
-    let sheet = Sheet::decode(&made.bytes).ok_or("cannot be decoded")?;
-    if made.sheet.as_ref().is_some_and(|whole| *whole != sheet) {
+    if made.sheet.is_some() && made.sheet != Sheet::decode(&made.bytes) {
         return Err("decoded otherwise than encoded".into());
     }
+    let read = oracle::read(&made.bytes).ok_or("cannot be read")?;
     match &ample.answer {
         Answer::Laid { text, lines, width } => {
-            let rust = oracle::text(&sheet).map_err(|panic| format!("Rust: {panic:?}"))?;
+            let rust = read.text().map_err(|panic| format!("Rust: {panic:?}"))?;
             if rust != *text || measured(&rust) != (*lines, *width) {
                 return Err(format!("the texts, the lines or the widths: {:?}", measured(&rust)));
             }
-            heights(&sheet, &ample.heights).map(|()| "text and heights")
+            heights(&read, &ample.heights).map(|()| "text and heights")
         }
         Answer::Refused(Refusal { number: 5, place }) => {
-            panics(&sheet, Panic::OneIndexedNought, *place)
+            panics(&read, Panic::OneIndexedNought, *place)
         }
         Answer::Refused(Refusal { number: 8, place }) => {
-            panics(&sheet, Panic::IndentBelowNought, *place)
+            panics(&read, Panic::IndentBelowNought, *place)
         }
-        Answer::Refused(_) => before_refusal(&sheet, &ample.heights),
+        Answer::Refused(_) => before_refusal(&read, &ample.heights),
     }
 }
 
@@ -118,8 +123,8 @@ pub fn measured(text: &[u8]) -> (usize, usize) {
     (widths.len(), widths.into_iter().max().unwrap_or(0))
 }
 
-fn heights(sheet: &Sheet, model: &[Height]) -> Result<(), String> {
-    let rust = oracle::heights(sheet).map_err(|panic| format!("watched Rust: {panic:?}"))?;
+fn heights(read: &Read, model: &[Height]) -> Result<(), String> {
+    let rust = read.heights().map_err(|panic| format!("watched Rust: {panic:?}"))?;
     if rust == model {
         return Ok(());
     }
@@ -127,9 +132,9 @@ fn heights(sheet: &Sheet, model: &[Height]) -> Result<(), String> {
     Err(format!("heights: {:?}", at.map(|i| ("Rust", rust[i], "model", model[i]))))
 }
 
-fn panics(sheet: &Sheet, panic: Panic, place: usize) -> Result<&'static str, String> {
-    let plain = oracle::text(sheet).err();
-    let watched = oracle::heights(sheet).err();
+fn panics(read: &Read, panic: Panic, place: usize) -> Result<&'static str, String> {
+    let plain = read.text().err();
+    let watched = read.heights().err();
     if plain.as_ref() != Some(&panic) || watched != plain {
         return Err(format!("Rust should panic by {panic:?}: {plain:?}, watched {watched:?}"));
     }
@@ -140,8 +145,8 @@ fn panics(sheet: &Sheet, panic: Panic, place: usize) -> Result<&'static str, Str
 }
 
 /// Refusals 6 and 7 are not the Rust's; what was laid out before them is.
-fn before_refusal(sheet: &Sheet, model: &[Height]) -> Result<&'static str, String> {
-    let Ok(rust) = oracle::heights(sheet) else {
+fn before_refusal(read: &Read, model: &[Height]) -> Result<&'static str, String> {
+    let Ok(rust) = read.heights() else {
         return Ok("none: the Rust panics later");
     };
     let before = model.len() - 1;
@@ -150,13 +155,29 @@ fn before_refusal(sheet: &Sheet, model: &[Height]) -> Result<&'static str, Strin
 }
 
 /// The answer at this buffer, worked out again from the heights at an ample one.
-fn buffer(ample: &Trial, room: usize, answer: &Answer) -> Result<(), String> {
-    let over = ample.heights.iter().find(|height| height.peak > room);
-    let expected = match over {
+fn at_room(ample: &Trial, room: usize) -> Answer {
+    match ample.heights.iter().find(|height| height.peak > room) {
         Some(height) => Answer::Refused(Refusal { number: 9, place: height.token }),
         None => ample.answer.clone(),
-    };
-    (*answer == expected).then_some(()).ok_or(format!("at {room}, by the heights: {expected:?}"))
+    }
+}
+
+/// The proved call at this buffer and at those around the need.
+#[cfg(feature = "call")]
+fn call(bytes: &[u8], ample: &Trial, room: usize) -> Result<(), String> {
+    let need = peak(&ample.heights);
+    for room in [room, need, need.saturating_sub(1), need + 1] {
+        let got = crate::call::answer(bytes, room)?;
+        if got != at_room(ample, room) {
+            return Err(format!("the call at {room}: {}", show::answer(&got)));
+        }
+    }
+    Ok(())
+}
+
+#[cfg(not(feature = "call"))]
+fn call(_: &[u8], _: &Trial, _: usize) -> Result<(), String> {
+    Ok(())
 }
 
 fn note(tally: &mut Tally, made: &Made, ample: &Trial, answer: &Answer, how: &'static str) {

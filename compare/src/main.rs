@@ -1,12 +1,16 @@
 //! Compares document 01's rules, and any port's answers, with the Rust that the desk runs.
 
 mod answers;
+#[cfg(feature = "call")]
+mod call;
 mod check;
 mod model;
 mod oracle;
 mod random;
 mod sheet;
 mod show;
+#[cfg(feature = "call")]
+mod speed;
 mod starred;
 mod table;
 mod tokenizer;
@@ -98,10 +102,10 @@ fn run(words: &[&str]) -> Option<bool> {
         ["list", n, seed] => Some(table::list(n.parse().ok()?, seed.parse().ok()?)),
         ["show", file] => Some(show::run(file, 65536)),
         ["show", file, room] => Some(show::run(file, room.parse().ok()?)),
+        #[cfg(feature = "call")]
+        ["speed", seed] => Some(speed::run(seed.parse().ok()?)),
         ["starred"] => Some(starred::run()),
-        ["answers", n, seed, file] => {
-            Some(answers::run(n.parse().ok()?, seed.parse().ok()?, file))
-        }
+        ["answers", n, seed, file] => Some(answers::run(n.parse().ok()?, seed.parse().ok()?, file)),
         _ => None,
     }
 }

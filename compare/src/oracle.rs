@@ -3,7 +3,7 @@
 use std::cell::RefCell;
 use std::panic::{self, AssertUnwindSafe};
 
-use crate::sheet::{self, Key, Sheet};
+use crate::sheet::{self, Head, Key, Reader};
 use crate::tokenizer::{PlaceholderKind, Token, TokenKind};
 use crate::watched::Height;
 use crate::{Dialect, FormatOptions, Indent, QueryParams};
@@ -53,14 +53,28 @@ pub fn last_panic() -> String {
     LAST.with(|last| last.borrow().clone())
 }
 
-/// The text the unchanged Rust gives.
-pub fn text(sheet: &Sheet) -> Result<Vec<u8>, Panic> {
-    caught(|| with_rust(sheet, |t, p, o| crate::formatter::format(t, p, o).into_bytes()))
+/// A sheet as the Rust takes it.
+pub struct Read<'a> {
+    tokens: Vec<Token<'a>>,
+    params: QueryParams,
+    options: FormatOptions<'a>,
 }
 
-/// The heights of the Rust's working text, from the watched copy.
-pub fn heights(sheet: &Sheet) -> Result<Vec<Height>, Panic> {
-    caught(|| with_rust(sheet, |t, p, o| crate::watched_formatter::format(t, p, o).heights))
+impl Read<'_> {
+    /// The text the unchanged Rust gives.
+    pub fn format(&self) -> String {
+        crate::formatter::format(&self.tokens, &self.params, &self.options)
+    }
+
+    pub fn text(&self) -> Result<Vec<u8>, Panic> {
+        caught(|| self.format().into_bytes())
+    }
+
+    /// The heights of the Rust's working text, from the watched copy.
+    pub fn heights(&self) -> Result<Vec<Height>, Panic> {
+        let (tokens, params, options) = (&self.tokens, &self.params, &self.options);
+        caught(|| crate::watched_formatter::format(tokens, params, options).heights)
+    }
 }
 
 fn caught<T>(run: impl FnOnce() -> T) -> Result<T, Panic> {
@@ -77,38 +91,49 @@ fn caught<T>(run: impl FnOnce() -> T) -> Result<T, Panic> {
     })
 }
 
-fn with_rust<T>(sheet: &Sheet, run: impl FnOnce(&[Token], &QueryParams, &FormatOptions) -> T) -> T {
-    let tokens: Vec<Token> = sheet.tokens.iter().map(token).collect();
-    run(&tokens, &params(sheet), &options(sheet))
+/// Only for sheets that pass checks 1 to 4; any other may give `None` or nonsense.
+pub fn read(sheet: &[u8]) -> Option<Read<'_>> {
+    let mut reader = Reader::new(sheet)?;
+    let Head { tokens: n, params: p, keeps: k, mode, options: words } = reader.head;
+    let tokens = (0..n).map(|_| token(reader.token()?)).collect::<Option<_>>()?;
+    let entries = (0..p).map(|_| reader.param()).collect::<Option<Vec<_>>>()?;
+    let keeps = (0..k).map(|_| as_str(reader.place()?)).collect::<Option<Vec<_>>>()?;
+    let ignore_case_convert = (!keeps.is_empty()).then_some(keeps);
+    let options = FormatOptions { ignore_case_convert, ..options(&words) };
+    Some(Read { tokens, params: params(mode, &entries)?, options })
 }
 
-fn as_str(bytes: &[u8]) -> &str {
-    std::str::from_utf8(bytes).expect("bodies are ASCII after check 4")
+fn as_str(bytes: &[u8]) -> Option<&str> {
+    std::str::from_utf8(bytes).ok()
 }
 
-fn token(token: &sheet::Token) -> Token<'_> {
-    let key = match &token.key {
+fn token(token: sheet::Token<&[u8]>) -> Option<Token<'_>> {
+    let key = match token.key {
         Key::None => None,
-        Key::Named(name) => Some(PlaceholderKind::Named(as_str(name).into())),
-        Key::ZeroIndexed(number) => Some(PlaceholderKind::ZeroIndexed(*number as usize)),
-        Key::OneIndexed(number) => Some(PlaceholderKind::OneIndexed(*number as usize)),
+        Key::Named(name) => Some(PlaceholderKind::Named(as_str(name)?.into())),
+        Key::ZeroIndexed(number) => Some(PlaceholderKind::ZeroIndexed(number as usize)),
+        Key::OneIndexed(number) => Some(PlaceholderKind::OneIndexed(number as usize)),
     };
     let alias = if token.create { "CREATE" } else { "" };
-    Token { kind: KINDS[token.kind as usize], value: as_str(&token.value), key, alias }
+    Some(Token { kind: KINDS[token.kind as usize], value: as_str(token.value)?, key, alias })
 }
 
-fn params(sheet: &Sheet) -> QueryParams {
-    let own = |bytes: &[u8]| as_str(bytes).to_owned();
-    let entries = sheet.params.iter();
-    match sheet.mode {
+fn params(mode: u32, entries: &[sheet::Param<&[u8]>]) -> Option<QueryParams> {
+    let own = |bytes: &[u8]| as_str(bytes).map(str::to_owned);
+    let entries = entries.iter();
+    Some(match mode {
         sheet::MODE_NONE => QueryParams::None,
-        sheet::MODE_INDEXED => QueryParams::Indexed(entries.map(|p| own(&p.value)).collect()),
-        _ => QueryParams::Named(entries.map(|p| (own(&p.name), own(&p.value))).collect()),
-    }
+        sheet::MODE_INDEXED => {
+            QueryParams::Indexed(entries.map(|p| own(p.value)).collect::<Option<_>>()?)
+        }
+        _ => {
+            let named = |p: &sheet::Param<&[u8]>| Some((own(p.name)?, own(p.value)?));
+            QueryParams::Named(entries.map(named).collect::<Option<_>>()?)
+        }
+    })
 }
 
-fn options(sheet: &Sheet) -> FormatOptions<'_> {
-    let words = &sheet.options;
+fn options(words: &sheet::Options) -> FormatOptions<'static> {
     let limit = |word: u32| (word != sheet::NONE).then_some(word as usize);
     FormatOptions {
         indent: match words.indent {
@@ -117,10 +142,7 @@ fn options(sheet: &Sheet) -> FormatOptions<'_> {
         },
         uppercase: [None, Some(true), Some(false)][words.case as usize],
         lines_between_queries: words.lines as u8,
-        ignore_case_convert: match sheet.keep.is_empty() {
-            true => None,
-            false => Some(sheet.keep.iter().map(|word| as_str(word)).collect()),
-        },
+        ignore_case_convert: None,
         inline: words.inline == 1,
         max_inline_block: words.block as usize,
         max_inline_arguments: limit(words.arguments),

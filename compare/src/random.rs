@@ -1,7 +1,7 @@
 //! Random sheets from a seed: the same seed gives the same sheets.
 
 mod damage;
-mod query;
+pub mod query;
 mod soup;
 
 use crate::model::Refusal;

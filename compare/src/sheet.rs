@@ -46,7 +46,7 @@ pub const MODE_INDEXED: u32 = 1;
 pub const MODE_NAMED: u32 = 2;
 
 /// Head words 5 to 11.
-#[derive(Debug, Clone, PartialEq, Eq)]
+#[derive(Debug, Clone, Copy, PartialEq, Eq)]
 pub struct Options {
     pub indent: u32,
     pub case: u32,
@@ -65,18 +65,18 @@ impl Default for Options {
 }
 
 #[derive(Debug, Clone, PartialEq, Eq)]
-pub enum Key {
+pub enum Key<B = Vec<u8>> {
     None,
-    Named(Vec<u8>),
+    Named(B),
     ZeroIndexed(u32),
     OneIndexed(u32),
 }
 
 #[derive(Debug, Clone, PartialEq, Eq)]
-pub struct Token {
+pub struct Token<B = Vec<u8>> {
     pub kind: u8,
-    pub value: Vec<u8>,
-    pub key: Key,
+    pub value: B,
+    pub key: Key<B>,
     pub create: bool,
 }
 
@@ -86,10 +86,28 @@ impl Token {
     }
 }
 
+impl Token<&[u8]> {
+    fn owned(self) -> Token {
+        let key = match self.key {
+            Key::None => Key::None,
+            Key::Named(name) => Key::Named(name.to_vec()),
+            Key::ZeroIndexed(number) => Key::ZeroIndexed(number),
+            Key::OneIndexed(number) => Key::OneIndexed(number),
+        };
+        Token { kind: self.kind, value: self.value.to_vec(), key, create: self.create }
+    }
+}
+
 #[derive(Debug, Clone, PartialEq, Eq)]
-pub struct Param {
-    pub name: Vec<u8>,
-    pub value: Vec<u8>,
+pub struct Param<B = Vec<u8>> {
+    pub name: B,
+    pub value: B,
+}
+
+impl Param<&[u8]> {
+    fn owned(self) -> Param {
+        Param { name: self.name.to_vec(), value: self.value.to_vec() }
+    }
 }
 
 #[derive(Debug, Clone, PartialEq, Eq, Default)]
@@ -148,17 +166,14 @@ impl Sheet {
 
     /// Only for sheets that pass checks 1 to 3; any other may give `None` or nonsense.
     pub fn decode(bytes: &[u8]) -> Option<Sheet> {
-        let mut reader = Reader { bytes, at: 0, body: 0 };
-        let [n, p, k, _, mode, indent, case, inline, lines, block, arguments, top_level] =
-            reader.words()?;
-        let options = Options { indent, case, inline, lines, block, arguments, top_level };
-        reader.body = 48 + 20 * n as usize + 16 * p as usize + 8 * k as usize;
+        let mut reader = Reader::new(bytes)?;
+        let Head { tokens: n, params: p, keeps: k, mode, options } = reader.head;
         Some(Sheet {
             options,
             mode,
-            tokens: (0..n).map(|_| reader.token()).collect::<Option<_>>()?,
-            params: (0..p).map(|_| reader.param()).collect::<Option<_>>()?,
-            keep: (0..k).map(|_| reader.place()).collect::<Option<_>>()?,
+            tokens: (0..n).map(|_| Some(reader.token()?.owned())).collect::<Option<_>>()?,
+            params: (0..p).map(|_| Some(reader.param()?.owned())).collect::<Option<_>>()?,
+            keep: (0..k).map(|_| Some(reader.place()?.to_vec())).collect::<Option<_>>()?,
         })
     }
 }
@@ -173,34 +188,62 @@ fn packed(token: &Token) -> u32 {
     u32::from(token.kind) | class << 5 | u32::from(token.create) << 7
 }
 
-struct Reader<'a> {
+#[derive(Clone, Copy)]
+pub struct Head {
+    pub tokens: u32,
+    pub params: u32,
+    pub keeps: u32,
+    pub mode: u32,
+    pub options: Options,
+}
+
+/// Reads a sheet's records in turn, without a copy of their bytes.
+pub struct Reader<'a> {
+    pub head: Head,
     bytes: &'a [u8],
     at: usize,
     body: usize,
 }
 
-impl Reader<'_> {
+impl<'a> Reader<'a> {
+    pub fn new(bytes: &'a [u8]) -> Option<Self> {
+        let [
+            tokens,
+            params,
+            keeps,
+            _,
+            mode,
+            indent,
+            case,
+            inline,
+            lines,
+            block,
+            arguments,
+            top_level,
+        ] = words(bytes, 0)?;
+        let options = Options { indent, case, inline, lines, block, arguments, top_level };
+        let head = Head { tokens, params, keeps, mode, options };
+        let body = 48 + 20 * tokens as usize + 16 * params as usize + 8 * keeps as usize;
+        Some(Reader { head, bytes, at: 48, body })
+    }
+
     fn words<const N: usize>(&mut self) -> Option<[u32; N]> {
-        let mut words = [0; N];
-        for word in &mut words {
-            let four = self.bytes.get(self.at..self.at + 4)?;
-            *word = u32::from_le_bytes(four.try_into().ok()?);
-            self.at += 4;
-        }
+        let words = words(self.bytes, self.at)?;
+        self.at += 4 * N;
         Some(words)
     }
 
-    fn bytes_at(&self, start: u32, length: u32) -> Option<Vec<u8>> {
+    fn bytes_at(&self, start: u32, length: u32) -> Option<&'a [u8]> {
         let from = self.body + start as usize;
-        Some(self.bytes.get(from..from + length as usize)?.to_vec())
+        self.bytes.get(from..from + length as usize)
     }
 
-    fn place(&mut self) -> Option<Vec<u8>> {
+    pub fn place(&mut self) -> Option<&'a [u8]> {
         let [start, length] = self.words()?;
         self.bytes_at(start, length)
     }
 
-    fn token(&mut self) -> Option<Token> {
+    pub fn token(&mut self) -> Option<Token<&'a [u8]>> {
         let [packed, start, length, a, b] = self.words()?;
         let key = match packed >> 5 & 3 {
             0 => Key::None,
@@ -212,7 +255,15 @@ impl Reader<'_> {
         Some(Token { kind, value: self.bytes_at(start, length)?, key, create })
     }
 
-    fn param(&mut self) -> Option<Param> {
+    pub fn param(&mut self) -> Option<Param<&'a [u8]>> {
         Some(Param { name: self.place()?, value: self.place()? })
     }
+}
+
+fn words<const N: usize>(bytes: &[u8], at: usize) -> Option<[u32; N]> {
+    let mut words = [0; N];
+    for (word, four) in words.iter_mut().zip(bytes.get(at..at + 4 * N)?.chunks_exact(4)) {
+        *word = u32::from_le_bytes(four.try_into().ok()?);
+    }
+    Some(words)
 }

@@ -25,7 +25,7 @@ pub fn rust(bytes: &[u8]) -> String {
     if refused_before_layout(bytes) {
         return "not run".into();
     }
-    match Sheet::decode(bytes).map(|sheet| oracle::text(&sheet)) {
+    match oracle::read(bytes).map(|read| read.text()) {
         None => "not run".into(),
         Some(Ok(text)) => format!("{} bytes {}", text.len(), quoted(&text)),
         Some(Err(panic)) => format!("panic {panic:?}"),

@@ -225,7 +225,7 @@ fn count(cases: Vec<Case>, what: &str) -> bool {
 fn is_right(case: &Case) -> bool {
     let bytes = case.sheet.encode(&mut in_turn);
     let model = model::answer(&bytes, case.room);
-    let right = model == case.wanted && rust_agrees(case);
+    let right = model == case.wanted && rust_agrees(case, &bytes);
     if !right {
         println!("sheet {}: wanted {}", case.name, show::answer(&case.wanted));
         println!("model {}\nRust {}", show::answer(&model), show::rust(&bytes));
@@ -234,8 +234,10 @@ fn is_right(case: &Case) -> bool {
 }
 
 /// Refusals 6 and 9 are not the Rust's.
-fn rust_agrees(case: &Case) -> bool {
-    let rust = oracle::text(&case.sheet);
+fn rust_agrees(case: &Case, bytes: &[u8]) -> bool {
+    let Some(rust) = oracle::read(bytes).map(|read| read.text()) else {
+        return false;
+    };
     match &case.wanted {
         Answer::Laid { text, lines, width } => {
             rust.is_ok_and(|got| got == *text && measured(&got) == (*lines, *width))

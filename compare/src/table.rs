@@ -6,7 +6,6 @@ use crate::check::{measured, peak, room};
 use crate::model::{self, Answer, Refusal};
 use crate::oracle;
 use crate::random::{self, Dice, Made, Maker, Size};
-use crate::sheet::Sheet;
 use crate::show::hex;
 
 const CLAIM: usize = 25;
@@ -25,8 +24,8 @@ pub fn judged(bytes: &[u8], room: usize) -> Answer {
     if let Answer::Refused(_) = answer {
         return answer;
     }
-    let sheet = Sheet::decode(bytes).expect("laid out, so it passed check 3");
-    let text = oracle::text(&sheet).expect("laid out, so the Rust does not panic");
+    let read = oracle::read(bytes).expect("laid out, so it passed checks 1 to 4");
+    let text = read.text().expect("laid out, so the Rust does not panic");
     let (lines, width) = measured(&text);
     Answer::Laid { text, lines, width }
 }

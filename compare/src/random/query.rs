@@ -1,5 +1,8 @@
 //! Token streams as the desk's lexer sends them for queries of the usual shape.
 
+#[cfg(feature = "call")]
+pub mod sized;
+
 use super::{Dice, Size};
 use crate::sheet::*;
 
