@@ -1,130 +1,224 @@
-/* Hard use: random and damaged sheets, the sheet and the buffer each ending at a page that may not be touched. Any byte read or written outside them ends the
- * program. Checked besides: a refusal leaves every count and the whole buffer zero; a text has zero after it; the same call gives the same answer. */
+/* Hard use of the calls: random and damaged sheets, sheets of every length, buffers of every length around the need.
+ *
+ *     hard [N [SEED]]        N sheets (20,000) from a seed (1)
+ *
+ * The sheet and the buffer of a call lie at the fences of fence.h, in turn in each way that it has. The first wrong thing is said, its sheet is saved as
+ * hard.sheet (compare show reads it), and the program ends with 1. */
 #define _DEFAULT_SOURCE
+#include <fcntl.h>
 #include <inttypes.h>
-#include <stdio.h>
-#include <stdlib.h>
-#include <string.h>
-#include <sys/mman.h>
-#include <unistd.h>
+#include <signal.h>
 
-#include "twigmantle.h"
+#include "fence.h"
+#include "random_sheet.h"
 
-static uint64_t state;
+enum { AMPLE = 1 << 16, MOST_ROOM = 1 << 22, LONGER = 64, SECONDS = 60 };
 
-static uint32_t under(uint32_t bound)
+static struct pages sheets, texts;
+static uint8_t made[LONGEST + LONGER], text_now[MOST_ROOM], text_first[MOST_ROOM];
+static size_t length; /* the made sheet's */
+static uint64_t turn, calls, counts[10];
+
+static void save(void)
 {
-    state += 0x9e3779b97f4a7c15u;
-    uint64_t z = state;
-    z = (z ^ (z >> 30)) * 0xbf58476d1ce4e5b9u;
-    z = (z ^ (z >> 27)) * 0x94d049bb133111ebu;
-    return (uint32_t)((z ^ (z >> 31)) % (bound ? bound : 1));
+    int file = open("hard.sheet", O_WRONLY | O_CREAT | O_TRUNC, 0644);
+    if (file < 0 || write(file, made, length) != (ssize_t)length || close(file) != 0)
+        _exit(2);
 }
 
-/* The end of room bytes before a page that may not be touched. */
-static uint8_t *fence(size_t room)
+static void wrong(const char *what, size_t room)
 {
-    size_t page = (size_t)sysconf(_SC_PAGESIZE);
-    size_t all = (room + page - 1) / page * page + page;
-    uint8_t *at = mmap(NULL, all, PROT_READ | PROT_WRITE, MAP_PRIVATE | MAP_ANONYMOUS, -1, 0);
-    if (at == MAP_FAILED || mprotect(at + all - page, page, PROT_NONE) != 0) {
-        perror("fence");
-        exit(1);
-    }
-    return at + all - page;
-}
-
-static void put(uint8_t *sheet, size_t at, uint32_t word)
-{
-    for (int i = 0; i < 4; i++)
-        sheet[at + (size_t)i] = (uint8_t)(word >> (8 * i));
-}
-
-static void put_place(uint8_t *sheet, size_t at, uint32_t bytes)
-{
-    uint32_t start = under(bytes + 1);
-    put(sheet, at, start);
-    put(sheet, at + 4, under(5) ? under((bytes - start < 9 ? bytes - start : 8) + 1) : bytes - start);
-}
-
-/* A sheet that checks 1 to 4 pass; its length. */
-static size_t sound(uint8_t *sheet)
-{
-    static const char letters[] = "SELECT from (a,b); -- fmt: off\n case END limit ? :x [1] \t on";
-    uint32_t n = under(under(20) ? 24 : 300), mode = under(3), p = mode ? under(4) : 0, k = under(3), b = under(200);
-    size_t params = 48 + 20u * n, keeps = params + 16u * p, base = keeps + 8u * k;
-    uint32_t head[12] = {n, p, k, b, mode, under(8) ? under(9) : 256, under(3), under(4) == 0, under(4), under(60), under(2) ? under(30) : TWIGMANTLE_NONE, under(2) ? under(30) : TWIGMANTLE_NONE};
-    memset(sheet, 0, base);
-    for (size_t i = 0; i < 12; i++)
-        put(sheet, 4 * i, head[i]);
-    for (size_t i = 0; i < n; i++) {
-        uint32_t class = under(4);
-        put(sheet, 48 + 20 * i, under(17) | class << 5 | under(2) << 7);
-        put_place(sheet, 52 + 20 * i, b);
-        if (class == 1)
-            put_place(sheet, 60 + 20 * i, b);
-        else if (class > 1)
-            put(sheet, 60 + 20 * i, under(5));
-    }
-    for (size_t i = 0; i < p; i++) {
-        if (mode == 2)
-            put_place(sheet, params + 16 * i, b);
-        put_place(sheet, params + 16 * i + 8, b);
-    }
-    for (size_t i = 0; i < k; i++)
-        put_place(sheet, keeps + 8 * i, b);
-    for (size_t i = 0; i < b; i++)
-        sheet[base + i] = under(6) ? (uint8_t)letters[under(sizeof letters - 1)] : (uint8_t)under(128);
-    return base + b;
-}
-
-static void wrong(const char *what, uint64_t turn)
-{
-    printf("turn %" PRIu64 ": %s\n", turn, what);
+    printf("sheet %" PRIu64 " of %zu bytes, buffer of %zu: %s\n", turn, length, room, what);
+    save();
     exit(1);
 }
 
-static struct twigmantle_report lay(const uint8_t *sheet, size_t n, uint8_t *fenced, size_t room, uint64_t turn)
+/* Comes in the middle of a call: nothing here that a signal's handler may not do. */
+static void caught(int signal)
 {
-    uint8_t *text = fenced - room;
-    memset(text, 7, room);
-    struct twigmantle_report r = twigmantle_layout(sheet, n, text, room);
-    if (r.refusal != 0 && (r.length | r.lines | r.width) != 0)
-        wrong("a refusal with a count", turn);
-    if (r.length > room || r.refusal > 9)
-        wrong("a number out of range", turn);
+    static const char stray[] = "a byte outside the sheet and the buffer was touched\n", late[] = "a call did not end\n";
+    ssize_t n = signal == SIGALRM ? write(1, late, sizeof late - 1) : write(1, stray, sizeof stray - 1);
+    save();
+    _exit(n > 0 ? 1 : 2);
+}
+
+/* Places must lie within the sheet; lines and width are counted again, so that every byte of the text is read. */
+static const char *fault(struct twigmantle_report r, const uint8_t *text, size_t room)
+{
+    uint64_t lines = r.length > 0, width = 0, run = 0;
+    size_t tokens = made[0] + ((size_t)made[1] << 8);
+    if (r.refusal > 9 || r.length > room)
+        return "a number out of range";
+    if (r.place != 0 && r.place >= (r.refusal > 4 ? tokens : r.refusal > 1 ? length : 0))
+        return "a place out of range";
+    for (size_t i = 0; i < r.length; i++) {
+        lines += text[i] == '\n';
+        run = text[i] == '\n' ? 0 : run + 1;
+        width = run > width ? run : width;
+    }
+    if ((r.refusal != 0 && r.length != 0) || r.lines != lines || r.width != width)
+        return "counts that are not the text's";
     for (size_t i = (size_t)r.length; i < room; i++)
         if (text[i] != 0)
-            wrong("a byte after the text that is not zero", turn);
+            return "a byte after the text that is not zero";
+    return NULL;
+}
+
+/* One call on the sheet in `made`; its text is left in `text_now`. */
+static struct twigmantle_report lay(size_t room)
+{
+    enum where where = calls++ % WAYS;
+    uint8_t *sheet = lend(&sheets, length, where), *text = lend(&texts, room, where);
+    memcpy(sheet, made, length);
+    if (where != HEAP)
+        memset(text, (int)under(256), room);
+    struct twigmantle_report r = twigmantle_layout(sheet, length, text, room);
+    const char *what = fault(r, text, room);
+    if (what == NULL && memcmp(sheet, made, length) != 0)
+        what = "the sheet was written to";
+    if (what != NULL)
+        wrong(what, room);
+    memcpy(text_now, text, (size_t)r.length);
+    give_back(sheet, where);
+    give_back(text, where);
     return r;
+}
+
+/* The least buffer that is not refused with 9: at least the text's length, and more where the working text was longer than it was left. */
+static size_t need_of(struct twigmantle_report ample)
+{
+    size_t low = (size_t)ample.length, high = low;
+    for (size_t step = 1; lay(high).refusal == 9; step *= 2) {
+        low = high + 1;
+        high = high + step < MOST_ROOM ? high + step : MOST_ROOM;
+    }
+    while (low < high) {
+        size_t middle = (low + high) / 2;
+        if (lay(middle).refusal == 9)
+            low = middle + 1;
+        else
+            high = middle;
+    }
+    return low;
+}
+
+/* Below the need 9, from it up the ample buffer's answer; the place of the 9. */
+static uint64_t at_room(size_t room, size_t need, struct twigmantle_report ample)
+{
+    struct twigmantle_report r = lay(room);
+    counts[9] += r.refusal == 9;
+    if (room < need && r.refusal != 9)
+        wrong("less than the least room, and not refused with 9", room);
+    int same = r.refusal == ample.refusal && r.place == ample.place && r.length == ample.length;
+    if (room >= need && (!same || memcmp(text_now, text_first, (size_t)r.length) != 0))
+        wrong("another answer for another buffer", room);
+    return room < need ? r.place : UINT64_MAX;
+}
+
+/* Buffers around the need; every length from 0 up for one small text in 16. */
+static void rooms(void)
+{
+    struct twigmantle_report ample = lay(AMPLE);
+    if (ample.refusal == 9)
+        ample = lay(MOST_ROOM);
+    counts[ample.refusal]++;
+    memcpy(text_first, text_now, (size_t)ample.length);
+    size_t need = ample.refusal == 9 ? MOST_ROOM + 1 : need_of(ample);
+    if (need <= 200 && one_in(16)) {
+        uint64_t last = 0;
+        for (size_t room = 0; room <= need + 8; room++) {
+            uint64_t place = at_room(room, need, ample);
+            if (place < last)
+                wrong("more room, and an earlier token is refused", room);
+            last = place;
+        }
+    } else {
+        size_t some[] = {under(3), under((uint32_t)need), need - (need > 1) - (need > 0), need - (need > 0), need, need + 1, need + under(300)};
+        for (size_t i = 0; i < sizeof some / sizeof some[0]; i++)
+            at_room(some[i] < MOST_ROOM ? some[i] : MOST_ROOM, need, ample);
+    }
+}
+
+/* Every length from 0 to past the sheet's own: all but that one are refused by their size. */
+static void lengths(void)
+{
+    size_t whole = length;
+    for (length = 0; length <= whole + LONGER; length++) {
+        if (length > whole)
+            made[length - 1] = (uint8_t)under(256);
+        struct twigmantle_report r = lay(under(80));
+        if (length != whole && (r.refusal != 1 || r.place != 0))
+            wrong("a wrong length, and not refused with 1 at 0", 0);
+    }
+    length = whole;
+}
+
+/* Any bytes, every length from 0 to 200; then with counts that fit, so that the checks after the first are met. */
+static void noise(void)
+{
+    for (length = 0; length <= 200; length++) {
+        for (size_t i = 0; i < length; i++)
+            made[i] = (uint8_t)under(one_in(2) ? 256 : 2);
+        struct twigmantle_report r = lay(under(80));
+        if (length < 48 && (r.refusal != 1 || r.place != 0))
+            wrong("under 48 bytes, and not refused with 1 at 0", 0);
+        if (length < 48)
+            continue;
+        uint32_t n = under((uint32_t)(length - 48) / 20 + 1), b = (uint32_t)length - 48 - 20 * n;
+        memset(made, 0, 48);
+        put(made, 4 * TWIGMANTLE_TOKENS, n);
+        put(made, 4 * TWIGMANTLE_BYTES, b);
+        put(made, 4 * (TWIGMANTLE_MODE + under(8)), under(300));
+        if (lay(under(80)).refusal == 1)
+            wrong("counts that fit, and refused with 1", 0);
+    }
+}
+
+/* The other call, into slices of every length. */
+static void heads(void)
+{
+    for (size_t n = 0; n < 3 * 100; n++) {
+        enum where where = n % WAYS;
+        size_t room = n / WAYS;
+        uint8_t *out = lend(&texts, room, where);
+        if (where != HEAP)
+            memset(out, 7, room);
+        size_t given = twigmantle_default_head(out, room), wanted = room < 48 ? 0 : 48;
+        length = wanted;
+        memcpy(made, out, wanted);
+        for (size_t i = wanted; i < room; i++)
+            if (out[i] != 0)
+                wrong("a byte after the head that is not zero", room);
+        if (given != wanted || (wanted > 0 && lay(0).refusal != 0))
+            wrong("no default head", room);
+        give_back(out, where);
+    }
 }
 
 int main(int argc, char **argv)
 {
-    uint64_t turns = argc > 1 ? strtoull(argv[1], NULL, 10) : 20000, counts[10] = {0};
-    state = argc > 2 ? strtoull(argv[2], NULL, 10) : 1;
-    static uint8_t made[65536];
-    uint8_t *sheets = fence(65536), *texts = fence(1u << 20);
-    for (uint64_t turn = 0; turn < turns; turn++) {
-        size_t n = sound(made);
-        if (under(3) == 0) /* damaged: a byte, or the length */
-            for (uint32_t i = under(3) + 1; i > 0; i--)
-                made[under((uint32_t)n)] = (uint8_t)under(256);
-        if (under(8) == 0)
-            n = under((uint32_t)n + 40);
-        uint8_t *sheet = sheets - n;
-        memcpy(sheet, made, n);
-        struct twigmantle_report ample = lay(sheet, n, texts, 1u << 18, turn);
-        counts[ample.refusal]++;
-        for (uint32_t i = 0; i < 4; i++) { /* buffers from 0 up around what is needed */
-            size_t need = (size_t)ample.length, room = i == 0 ? under(4) : (need > 4 ? need - 4 : 0) + under(12);
-            struct twigmantle_report r = lay(sheet, n, texts, room, turn);
-            if (r.refusal == 0 && (r.length != ample.length || r.lines != ample.lines || r.width != ample.width))
-                wrong("another answer for another buffer", turn);
-            counts[9] += r.refusal == 9;
-        }
+    uint64_t turns = argc > 1 ? strtoull(argv[1], NULL, 10) : 20000;
+    dice = argc > 2 ? strtoull(argv[2], NULL, 10) : 1;
+    sheets = fenced(sizeof made);
+    texts = fenced(MOST_ROOM);
+    signal(SIGSEGV, caught);
+    signal(SIGBUS, caught);
+    signal(SIGALRM, caught);
+    heads();
+    for (turn = 0; turn < turns; turn++) {
+        alarm(SECONDS);
+        if (turn % 256 == 0)
+            noise();
+        length = random_sheet(made);
+        if (turn % 64 == 0)
+            lengths();
+        for (uint32_t i = one_in(3) ? 1 + under(3) : 0; i > 0; i--) /* damaged */
+            made[under((uint32_t)length)] = (uint8_t)under(256);
+        rooms();
+        if ((turn + 1) % (turns < 10 ? 1 : turns / 10) == 0)
+            fprintf(stderr, "%" PRIu64 " of %" PRIu64 " sheets\n", turn + 1, turns);
     }
-    printf("%" PRIu64 " sheets: %" PRIu64 " laid out; refusals 1 to 9:", turns, counts[0]);
+    printf("%" PRIu64 " sheets, %" PRIu64 " calls: %" PRIu64 " laid out; refusals 1 to 9:", turns, calls, counts[0]);
     for (int i = 1; i < 10; i++)
         printf(" %" PRIu64, counts[i]);
     printf("\n");
