@@ -5,7 +5,7 @@ use std::fs;
 
 use crate::model::{self, Answer, Refusal, Trial};
 use crate::oracle::{self, Panic, Read};
-use crate::random::{self, Dice, Made};
+use crate::random::{self, Dice, Made, noise, white};
 use crate::sheet::{NAMES, Sheet};
 use crate::watched;
 use crate::{show, watched::Height};
@@ -17,7 +17,11 @@ struct Tally {
 
 impl Tally {
     fn add(&mut self, group: &'static str, name: impl Into<String>) {
-        *self.counts.entry((group, name.into())).or_default() += 1;
+        self.add_many(group, name, 1);
+    }
+
+    fn add_many(&mut self, group: &'static str, name: impl Into<String>, count: u64) {
+        *self.counts.entry((group, name.into())).or_default() += count;
     }
 
     fn print(&self) {
@@ -32,11 +36,15 @@ impl Tally {
     }
 }
 
+/// One sheet in so many is cut and drawn out to every length, or tried with every buffer.
+const EVERY: u64 = 128;
+
 pub fn run(n: u64, seed: u64) -> bool {
     let mut tally = Tally::default();
+    let mut lengths = [0; noise::LONGEST + 1];
     for turn in 0..n {
         let mut dice = Dice::new(seed, turn);
-        let made = random::make(&mut dice);
+        let made = random::make_any(&mut dice);
         let ample = model::trial(&made.bytes, model::AMPLE);
         let room = room(&mut dice, peak(&ample.heights));
         let answer = model::answer(&made.bytes, room);
@@ -46,6 +54,10 @@ pub fn run(n: u64, seed: u64) -> bool {
                 return Err(format!("at {room}, by the heights: {expected:?}"));
             }
             call(&made.bytes, &ample, room)?;
+            if turn % EVERY == 0 {
+                every_room(&mut tally, &made.bytes, &ample)?;
+                every_length(&mut tally, &made)?;
+            }
             Ok(how)
         });
         match compared {
@@ -55,14 +67,20 @@ pub fn run(n: u64, seed: u64) -> bool {
                 return false;
             }
         }
+        lengths.get_mut(made.bytes.len()).into_iter().for_each(|met| *met += 1);
         if (turn + 1) % (n / 10).max(1) == 0 {
             eprintln!("{} of {n} sheets", turn + 1);
         }
     }
     tally.print();
+    println!("each length from 0 to {} is met {} times or more", noise::LONGEST, least(&lengths));
     let with = if cfg!(feature = "call") { ", the call too" } else { "" };
     println!("{n} sheets, seed {seed}{with}: no difference");
     true
+}
+
+fn least(counts: &[u64]) -> u64 {
+    counts.iter().copied().min().unwrap_or(0)
 }
 
 pub fn peak(heights: &[Height]) -> usize {
@@ -89,8 +107,8 @@ fn compare(made: &Made, ample: &Trial) -> Result<&'static str, String> {
         return same.then_some("refusal put in").ok_or(format!("put in: {expected:?}"));
     }
     if let Answer::Refused(Refusal { number: 1..=4, .. }) = ample.answer {
-        let flipped = made.sheet.is_none();
-        return flipped.then_some("none: flipped").ok_or("a whole sheet is refused".into());
+        let chance = made.sheet.is_none();
+        return chance.then_some("none: by chance").ok_or("a whole sheet is refused".into());
     }
     if made.sheet.is_some() && made.sheet != Sheet::decode(&made.bytes) {
         return Err("decoded otherwise than encoded".into());
@@ -162,22 +180,53 @@ fn at_room(ample: &Trial, room: usize) -> Answer {
     }
 }
 
-/// The proved call at this buffer and at those around the need.
-#[cfg(feature = "call")]
-fn call(bytes: &[u8], ample: &Trial, room: usize) -> Result<(), String> {
-    let need = peak(&ample.heights);
-    for room in [room, need, need.saturating_sub(1), need + 1] {
-        let got = crate::call::answer(bytes, room)?;
-        if got != at_room(ample, room) {
-            return Err(format!("the call at {room}: {}", show::answer(&got)));
-        }
-    }
-    Ok(())
+/// The proved call at one buffer; the model alone where it is not linked.
+fn call_at(bytes: &[u8], ample: &Trial, room: usize) -> Result<(), String> {
+    #[cfg(feature = "call")]
+    let (whose, got) = ("call", crate::call::answer(bytes, room)?);
+    #[cfg(not(feature = "call"))]
+    let (whose, got) = ("model", model::answer(bytes, room));
+    let same = got == at_room(ample, room);
+    same.then_some(()).ok_or_else(|| format!("the {whose} at {room}: {}", show::answer(&got)))
 }
 
-#[cfg(not(feature = "call"))]
-fn call(_: &[u8], _: &Trial, _: usize) -> Result<(), String> {
-    Ok(())
+/// At this buffer and at those around the need.
+fn call(bytes: &[u8], ample: &Trial, room: usize) -> Result<(), String> {
+    let need = peak(&ample.heights);
+    let rooms = [room, need, need.saturating_sub(1), need + 1];
+    rooms.into_iter().try_for_each(|room| call_at(bytes, ample, room))
+}
+
+/// Buffers of every length from 0 up, where the need is small.
+fn every_room(tally: &mut Tally, bytes: &[u8], ample: &Trial) -> Result<(), String> {
+    let rooms = peak(&ample.heights) + 8;
+    if rooms > 400 {
+        return Ok(());
+    }
+    tally.add("7 tried throughout", "sheets with every buffer");
+    tally.add_many("7 tried throughout", "buffers", rooms as u64 + 1);
+    (0..=rooms).try_for_each(|room| call_at(bytes, ample, room))
+}
+
+/// A whole sheet cut to every length, and drawn out: by document 01 its size is then wrong.
+fn every_length(tally: &mut Tally, made: &Made) -> Result<(), String> {
+    let (whole, longest) = (made.bytes.len(), made.bytes.len() + 64);
+    if made.sheet.is_none() || whole > 4000 {
+        return Ok(());
+    }
+    tally.add("7 tried throughout", "sheets of every length");
+    tally.add_many("7 tried throughout", "lengths", longest as u64);
+    let bytes: Vec<u8> = made.bytes.iter().copied().cycle().take(longest).collect();
+    let refused = Answer::Refused(Refusal { number: 1, place: 0 });
+    let refused = Trial { answer: refused, heights: Vec::new(), handlers: Vec::new() };
+    let mut others = (0..=longest).filter(|&length| length != whole);
+    others.try_for_each(|length| {
+        let cut = &bytes[..length];
+        if model::answer(cut, 0) != refused.answer {
+            return Err(format!("the model, cut to {length}"));
+        }
+        call_at(cut, &refused, length % 70).map_err(|said| format!("cut to {length}: {said}"))
+    })
 }
 
 fn note(tally: &mut Tally, made: &Made, ample: &Trial, answer: &Answer, how: &'static str) {
@@ -190,7 +239,13 @@ fn note(tally: &mut Tally, made: &Made, ample: &Trial, answer: &Answer, how: &'s
     }
     if let Some(sheet) = &made.sheet {
         for token in &sheet.tokens {
-            tally.add("6 kinds", NAMES[token.kind as usize]);
+            let kind = NAMES[token.kind as usize];
+            tally.add("6 kinds", kind);
+            match token.value.as_slice() {
+                [] => tally.add("8 empty values", kind),
+                value if white::is_white(value) => tally.add("9 all white values", kind),
+                _ => {}
+            }
         }
     }
 }

@@ -1,8 +1,11 @@
 //! Random sheets from a seed: the same seed gives the same sheets.
 
+mod brim;
 mod damage;
+pub mod noise;
 pub mod query;
 mod soup;
+pub mod white;
 
 use crate::model::Refusal;
 use crate::sheet::*;
@@ -69,6 +72,9 @@ pub enum Maker {
     Bounds,
     Damaged,
     Flipped,
+    Brim,
+    White,
+    Noise,
 }
 
 const USUAL: [Maker; 16] = [
@@ -90,6 +96,19 @@ const USUAL: [Maker; 16] = [
     Maker::Flipped,
 ];
 
+/// Every maker: what `check` runs.
+pub fn make_any(dice: &mut Dice) -> Made {
+    let maker = match dice.below(1000) {
+        0..8 => Maker::Deep,
+        8..20 => Maker::Brim,
+        20..60 => Maker::White,
+        60..90 => Maker::Noise,
+        _ => return make(dice),
+    };
+    make_with(dice, maker, Size::Any)
+}
+
+/// The makers that the fixed list was made with: another mixture here would be another list.
 pub fn make(dice: &mut Dice) -> Made {
     let maker = match dice.below(2000) {
         0..5 => Maker::Deep,
@@ -101,14 +120,22 @@ pub fn make(dice: &mut Dice) -> Made {
 }
 
 pub fn make_with(dice: &mut Dice, maker: Maker, size: Size) -> Made {
-    if maker == Maker::Bounds {
-        return bounds(dice);
+    match maker {
+        Maker::Bounds => return bounds(dice),
+        Maker::Noise => {
+            let (bytes, expected) = noise::bytes(dice);
+            return Made { maker: "noise", bytes, sheet: None, expected };
+        }
+        _ => {}
     }
     let whole = match maker {
-        Maker::Damaged | Maker::Flipped => dice.pick(&USUAL[..13]),
+        Maker::Damaged | Maker::Flipped | Maker::White => dice.pick(&USUAL[..13]),
         other => other,
     };
-    let sheet = sheet(dice, whole, size);
+    let mut sheet = sheet(dice, whole, size);
+    if maker == Maker::White {
+        sheet = white::whitened(dice, sheet);
+    }
     let bytes = encode(dice, &sheet);
     match maker {
         Maker::Damaged => {
@@ -136,6 +163,9 @@ fn name(maker: Maker) -> &'static str {
         Maker::Bounds => "bounds",
         Maker::Damaged => "damaged",
         Maker::Flipped => "flipped",
+        Maker::Brim => "brim",
+        Maker::White => "white",
+        Maker::Noise => "noise",
     }
 }
 
@@ -154,6 +184,7 @@ fn sheet(dice: &mut Dice, maker: Maker, size: Size) -> Sheet {
         Maker::Folds => soup::folds(dice, &mut options, size),
         Maker::Query => query::tokens(dice, size),
         Maker::Deep => soup::deep(dice, &mut options),
+        Maker::Brim => brim::tokens(dice, &mut options),
         _ => soup::tokens(dice, count),
     };
     let most = if size == Size::Table { 3 } else { 5 };
