@@ -7,6 +7,7 @@ mod check;
 mod model;
 mod oracle;
 mod random;
+mod samples;
 mod sheet;
 mod show;
 #[cfg(feature = "call")]
@@ -70,7 +71,8 @@ compare table N SEED FIRST
 compare list N SEED
 compare show FILE [ROOM]
 compare starred
-compare answers N SEED FILE";
+compare answers N SEED FILE
+compare samples FOLDER";
 
 fn main() -> ExitCode {
     oracle::silence_panics();
@@ -106,6 +108,7 @@ fn run(words: &[&str]) -> Option<bool> {
         ["speed", seed] => Some(speed::run(seed.parse().ok()?)),
         ["starred"] => Some(starred::run()),
         ["answers", n, seed, file] => Some(answers::run(n.parse().ok()?, seed.parse().ok()?, file)),
+        ["samples", folder] => Some(samples::run(folder)),
         _ => None,
     }
 }

@@ -1,0 +1,276 @@
+//! Samples for a newcomer: sheets, what the sheet program prints for each, and a page of both.
+
+use std::path::Path;
+use std::{fs, io};
+
+use crate::model::{Answer, Refusal};
+use crate::sheet::*;
+use crate::table;
+
+/// The buffer of the sheet program.
+const ROOM: usize = 65536;
+
+type Piece = (u8, &'static str);
+
+const T: u8 = TOP_LEVEL;
+const R: u8 = RESERVED;
+const N: u8 = NEWLINE;
+const O: u8 = OPERATOR;
+const W: u8 = WORD;
+const P: u8 = PLACEHOLDER;
+const BLANK: Piece = (WHITESPACE, " ");
+const FEED: Piece = (WHITESPACE, "\n");
+
+struct Sample {
+    name: &'static str,
+    about: &'static str,
+    sheet: Sheet,
+}
+
+#[rustfmt::skip]
+const JOINED: &[Piece] = &[
+    (T, "SELECT"), BLANK, (W, "n"), (O, "."), (W, "note"), (O, ","), BLANK,
+    (W, "c"), (O, "."), (W, "line"), BLANK,
+    (T, "FROM"), BLANK, (W, "notes"), BLANK, (W, "n"), BLANK,
+    (N, "JOIN"), BLANK, (W, "calls"), BLANK, (W, "c"), BLANK,
+    (R, "ON"), BLANK, (W, "n"), (O, "."), (W, "call_id"), BLANK, (O, "="), BLANK,
+    (W, "c"), (O, "."), (W, "id"), BLANK,
+    (T, "ORDER BY"), BLANK, (W, "n"), (O, "."), (W, "taken"), BLANK, (R, "DESC"),
+];
+
+#[rustfmt::skip]
+const FOLD: &[Piece] = &[
+    (T, "SELECT"), BLANK, (W, "note"), BLANK,
+    (T, "FROM"), BLANK, (OPEN, "("),
+    (T, "SELECT"), BLANK, (W, "note"), BLANK, (T, "FROM"), BLANK, (W, "notes"), BLANK,
+    (T, "WHERE"), BLANK, (W, "call_id"), BLANK, (O, "="), BLANK, (NUMBER, "48213"), BLANK,
+    (N, "AND"), BLANK, (W, "line"), BLANK, (O, "="), BLANK, (NUMBER, "7"), (CLOSE, ")"), BLANK,
+    (T, "ORDER BY"), BLANK, (W, "taken"),
+];
+
+#[rustfmt::skip]
+const INDEXED: &[Piece] = &[
+    (T, "SELECT"), BLANK, (W, "note"), BLANK, (T, "FROM"), BLANK, (W, "notes"), BLANK,
+    (T, "WHERE"), BLANK, (W, "call_id"), BLANK, (O, "="), BLANK, (P, "?"), BLANK,
+    (N, "AND"), BLANK, (W, "line"), BLANK, (O, "="), BLANK, (P, "?"), BLANK,
+    (N, "AND"), BLANK, (W, "desk"), BLANK, (O, "="), BLANK, (P, "?"),
+];
+
+#[rustfmt::skip]
+const NAMED: &[Piece] = &[
+    (T, "select"), BLANK, (W, "note"), BLANK, (T, "from"), BLANK, (W, "notes"), BLANK,
+    (T, "where"), BLANK, (W, "call_id"), BLANK, (O, "="), BLANK, (P, ":call"), BLANK,
+    (N, "and"), BLANK, (W, "line"), BLANK, (O, "="), BLANK, (P, ":line"), BLANK,
+    (N, "and"), BLANK, (W, "desk"), BLANK, (O, "="), BLANK, (P, ":desk"),
+];
+
+#[rustfmt::skip]
+const NUMBERED: &[Piece] = &[
+    (T, "SELECT"), BLANK, (W, "note"), BLANK, (T, "FROM"), BLANK, (W, "notes"), BLANK,
+    (T, "WHERE"), BLANK, (W, "line"), BLANK, (O, "="), BLANK, (P, "$2"), BLANK,
+    (N, "AND"), BLANK, (W, "call_id"), BLANK, (R, "IN"), BLANK,
+    (OPEN, "("), (P, "$1"), (O, ","), BLANK, (P, "?0"), (O, ","), BLANK, (P, "$3"), (CLOSE, ")"),
+];
+
+#[rustfmt::skip]
+const SWITCH: &[Piece] = &[
+    (T, "SELECT"), BLANK, (W, "note"), BLANK, (T, "FROM"), BLANK, (W, "notes"), BLANK,
+    (T, "WHERE"), FEED,
+    (LINE_COMMENT, "-- fmt: off"), FEED,
+    (W, "call_id"), (O, "="), (P, "?"), (WHITESPACE, "   "),
+    (N, "OR"), (WHITESPACE, "   "), (W, "line"), (O, "="), (P, "?"), FEED,
+    (LINE_COMMENT, "-- fmt: on"), FEED,
+    (N, "AND"), BLANK, (W, "desk"), (O, "="), (P, "?"),
+];
+
+#[rustfmt::skip]
+const ACCENT: &[Piece] = &[
+    (T, "SELECT"), BLANK, (STRING, "'Zoë'"), BLANK, (R, "AS"), BLANK, (W, "caller"),
+];
+
+#[rustfmt::skip]
+const SHORT: &[Piece] = &[
+    (T, "SELECT"), BLANK, (W, "note"), BLANK, (T, "FROM"), BLANK, (W, "notes"),
+];
+
+/// As the source's lexer reads a placeholder's key.
+fn key(value: &str) -> Key {
+    let (mark, rest) = value.split_at(1);
+    match (mark, rest.parse()) {
+        ("?", Ok(number)) => Key::ZeroIndexed(number),
+        ("$", Ok(number)) => Key::OneIndexed(number),
+        ("@" | ":" | "$", _) => Key::Named(rest.into()),
+        _ => Key::None,
+    }
+}
+
+fn of(pieces: &[Piece]) -> Sheet {
+    let token = |&(kind, value): &Piece| {
+        let key = if kind == PLACEHOLDER { key(value) } else { Key::None };
+        Token { key, ..Token::new(kind, value) }
+    };
+    Sheet { tokens: pieces.iter().map(token).collect(), ..Sheet::default() }
+}
+
+fn filled(mut sheet: Sheet, mode: u32, entries: &[(&str, &str)]) -> Sheet {
+    let param = |&(name, value): &(&str, &str)| Param { name: name.into(), value: value.into() };
+    sheet.mode = mode;
+    sheet.params = entries.iter().map(param).collect();
+    sheet
+}
+
+fn with(mut sheet: Sheet, set: impl FnOnce(&mut Options)) -> Sheet {
+    set(&mut sheet.options);
+    sheet
+}
+
+fn samples() -> Vec<Sample> {
+    let sample = |name, about, sheet| Sample { name, about, sheet };
+    let mut samples = vec![
+        sample("join", "A join.", of(JOINED)),
+        sample(
+            "fold",
+            "With `max_inline_top_level` given, the bracket stays on the line of its word, and what is \
+             inside stands one level in, not two.",
+            with(of(FOLD), |o| o.top_level = 15),
+        ),
+    ];
+    samples.extend(placeholders());
+    samples.extend(refused());
+    samples
+}
+
+fn placeholders() -> [Sample; 4] {
+    let sample = |name, about, sheet| Sample { name, about, sheet };
+    let list = &[("", "48213"), ("", "7")];
+    let names = &[("call", "48213"), ("line", "7")];
+    let named = with(filled(of(NAMED), MODE_NAMED, names), |o| o.case = 1);
+    [
+        sample(
+            "indexed",
+            "Each `?` takes the next entry; one that finds none stays as it is.",
+            filled(of(INDEXED), MODE_INDEXED, list),
+        ),
+        sample(
+            "named",
+            "By name, and reserved words in upper case; a name that is not listed stays as it is.",
+            named,
+        ),
+        sample(
+            "numbered",
+            "By number: `$1` counts from one and `?0` from nought, so both are the first entry.",
+            filled(of(NUMBERED), MODE_INDEXED, list),
+        ),
+        sample(
+            "switch",
+            "Between the two comments everything stays as it was, placeholders too, and no entry is \
+             taken. Each comment is dropped, and so is the token after it, here a line feed.",
+            filled(of(SWITCH), MODE_INDEXED, list),
+        ),
+    ]
+}
+
+fn refused() -> [Sample; 3] {
+    let sample = |name, about, sheet| Sample { name, about, sheet };
+    let brackets = with(of(&[(OPEN, "("); 40]), |o| (o.block, o.indent) = (0, 255));
+    [
+        sample(
+            "refusal",
+            "Case is 0, 1 or 2. The place is the word's offset in the sheet.",
+            with(of(SHORT), |o| o.case = 3),
+        ),
+        sample(
+            "accent",
+            "Bodies are ASCII. The place is the byte's offset in the sheet.",
+            of(ACCENT),
+        ),
+        sample(
+            "room",
+            "40 brackets, each 255 spaces further in: more than the program's buffer of 65,536 bytes. \
+             The place is the token's number.",
+            brackets,
+        ),
+    ]
+}
+
+/// What the sheet program prints.
+fn printed(answer: &Answer) -> String {
+    match answer {
+        Answer::Laid { text, lines, width } => {
+            let length = text.len();
+            format!("ok {length} {lines} {width}\n{}\n", String::from_utf8_lossy(text))
+        }
+        Answer::Refused(Refusal { number, place }) => format!("refused {number} at {place}\n"),
+    }
+}
+
+fn listed(items: impl Iterator<Item = String>) -> String {
+    items.collect::<Vec<_>>().join(", ")
+}
+
+/// The head's words that are not the default head's, and the parameters.
+fn settings(sheet: &Sheet) -> String {
+    let words = |o: &Options| {
+        [
+            ("indent", o.indent),
+            ("case", o.case),
+            ("max_inline_block", o.block),
+            ("max_inline_top_level", o.top_level),
+        ]
+    };
+    let usual = words(&Options::default());
+    let changed = words(&sheet.options).into_iter().filter(|word| !usual.contains(word));
+    let changed = listed(changed.map(|(name, word)| format!("`{name}` {word}")));
+    let options = if changed.is_empty() { "as by default".into() } else { changed };
+    let text = |bytes: &[u8]| String::from_utf8_lossy(bytes).into_owned();
+    let entries = listed(sheet.params.iter().map(|param| match sheet.mode {
+        MODE_NAMED => format!("`{}` = `{}`", text(&param.name), text(&param.value)),
+        _ => format!("`{}`", text(&param.value)),
+    }));
+    let mode = ["None", "Indexed", "Named"][sheet.mode as usize];
+    let space = if entries.is_empty() { "" } else { ": " };
+    format!("Options: {options}. Parameters: {mode}{space}{entries}.")
+}
+
+fn block(text: &str) -> String {
+    text.lines().map(|line| format!("    {line}").trim_end().to_owned() + "\n").collect()
+}
+
+const OPENING: &str = "# Samples
+
+Each sheet, the SQL that its tokens make one after another, and what the sheet program prints for it (the file NAME.text). From the repository's root:
+
+    target/bin/sheet < samples/join.sheet
+    for s in samples/*.sheet; do target/bin/sheet < $s | cmp - ${s%sheet}text && echo $s; done
+
+Made by `compare/target/release/compare samples samples` (`docs/comparison.md`) from `compare/src/samples.rs`, where the tokens stand with their kinds. The
+texts are the Rust's own, the refusals the model's.
+";
+
+fn section(sample: &Sample, text: &str) -> String {
+    let sql: Vec<u8> = sample.sheet.tokens.iter().flat_map(|token| token.value.clone()).collect();
+    let Sample { name, about, sheet } = sample;
+    let (sql, settings) = (block(&String::from_utf8_lossy(&sql)), settings(sheet));
+    format!("\n## {name}\n\n{about}\n{settings}\n\n{sql}\ngives\n\n{}", block(text))
+}
+
+fn write(folder: &Path) -> io::Result<()> {
+    fs::create_dir_all(folder)?;
+    let mut page = OPENING.to_owned();
+    for sample in samples() {
+        let bytes = sample.sheet.encode(&mut in_turn);
+        let text = printed(&table::judged(&bytes, ROOM));
+        page += &section(&sample, &text);
+        fs::write(folder.join(sample.name).with_extension("sheet"), bytes)?;
+        fs::write(folder.join(sample.name).with_extension("text"), text)?;
+    }
+    fs::write(folder.join("README.md"), page)
+}
+
+pub fn run(folder: &str) -> bool {
+    let done = write(Path::new(folder));
+    if let Err(error) = &done {
+        eprintln!("{folder}: {error}");
+    }
+    done.is_ok()
+}
