@@ -5,7 +5,7 @@
 
 #include "twigmantle.h"
 
-enum kind { WHITE = 1, RESERVED = 3, TOP_LEVEL = 4, OPERATOR = 8, PLACEHOLDER = 14, WORD = 15 };
+enum kind { WHITE = 1, TOP_LEVEL = 4, NEWLINE = 6, OPERATOR = 8, PLACEHOLDER = 14, WORD = 15 };
 
 struct token {
     enum kind kind;
@@ -15,7 +15,7 @@ struct token {
 static const struct token QUERY[] = {
     {TOP_LEVEL, "SELECT"}, {WHITE, " "}, {WORD, "note"},  {WHITE, " "}, {TOP_LEVEL, "FROM"}, {WHITE, " "}, {WORD, "notes"}, {WHITE, " "},
     {TOP_LEVEL, "WHERE"},  {WHITE, " "}, {WORD, "call_id"}, {WHITE, " "}, {OPERATOR, "="},   {WHITE, " "}, {PLACEHOLDER, "?"}, {WHITE, " "},
-    {RESERVED, "and"},     {WHITE, " "}, {WORD, "line"},  {WHITE, " "}, {OPERATOR, "="},     {WHITE, " "}, {PLACEHOLDER, "?"},
+    {NEWLINE, "and"},      {WHITE, " "}, {WORD, "line"},  {WHITE, " "}, {OPERATOR, "="},     {WHITE, " "}, {PLACEHOLDER, "?"},
 };
 static const char *const PARAMS[] = {"48213", "7"};
 

@@ -1,4 +1,4 @@
-/* The layout of a query sheet: any bytes, any buffer, no condition on either.
+/* The layout of a query sheet: any bytes, any buffer, no condition on either but that they do not overlap.
  * Link libtwigmantle.a (rt staticlib twigmantle, x86-64). */
 #ifndef TWIGMANTLE_H
 #define TWIGMANTLE_H
