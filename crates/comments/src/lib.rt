@@ -24,16 +24,23 @@ fn breaks_before_comment(sheet: &[u8], x: Context, i: usize) -> bool
     white_then_no_operator(sheet, x.base, c.tokens, i)
 }
 
-pub fn format_line_comment(query: &mut [u8], s: State, sheet: &[u8], x: Context, i: usize) -> State
-    requires { ⌜ Ready (now sheet) x i s (now query) ⌝ }
-    ensures { λ r. ⌜ Handled (now (sheet .entry)) x i formatLineComment s (now (query .entry)) r (now (query .exit)) ⌝ }
+pub fn format_line_comment(
+    query: &mut [u8],
+    stacks: &[u32],
+    s: State,
+    sheet: &[u8],
+    x: Context,
+    i: usize,
+) -> State
+    requires { ⌜ Ready (now sheet) x i s (now stacks) (now query) ⌝ }
+    ensures { λ r. ⌜ Handled (now (sheet .entry)) x i formatLineComment s (now (stacks .entry)) (now (query .entry)) r (now (stacks .entry)) (now (query .exit)) ⌝ }
 {
     let v = value_of(sheet, x, i);
     let breaks = breaks_before_comment(sheet, x, i);
     let c = x.counts;
     let comma = two_after_comma(sheet, x.base, c.tokens, i);
-    let stacks = s.indentation;
-    let level = stacks.indent_level(false);
+    let indentation = s.indentation;
+    let level = indentation.indent_level(stacks, false);
     let t = s.text;
     let o = x.options;
     let u = query::format_line_comment(query, t, sheet, v, o, level, breaks, comma);
@@ -42,13 +49,14 @@ pub fn format_line_comment(query: &mut [u8], s: State, sheet: &[u8], x: Context,
 
 pub fn format_type_specifier(
     query: &mut [u8],
+    stacks: &[u32],
     s: State,
     sheet: &[u8],
     x: Context,
     i: usize,
 ) -> State
-    requires { ⌜ Ready (now sheet) x i s (now query) ⌝ }
-    ensures { λ r. ⌜ Handled (now (sheet .entry)) x i formatTypeSpecifier s (now (query .entry)) r (now (query .exit)) ⌝ }
+    requires { ⌜ Ready (now sheet) x i s (now stacks) (now query) ⌝ }
+    ensures { λ r. ⌜ Handled (now (sheet .entry)) x i formatTypeSpecifier s (now (stacks .entry)) (now (query .entry)) r (now (stacks .entry)) (now (query .exit)) ⌝ }
 {
     let v = value_of(sheet, x, i);
     let c = x.counts;
@@ -58,13 +66,20 @@ pub fn format_type_specifier(
     s.with_text(u)
 }
 
-pub fn format_block_comment(query: &mut [u8], s: State, sheet: &[u8], x: Context, i: usize) -> State
-    requires { ⌜ Ready (now sheet) x i s (now query) ⌝ }
-    ensures { λ r. ⌜ Handled (now (sheet .entry)) x i formatBlockComment s (now (query .entry)) r (now (query .exit)) ⌝ }
+pub fn format_block_comment(
+    query: &mut [u8],
+    stacks: &[u32],
+    s: State,
+    sheet: &[u8],
+    x: Context,
+    i: usize,
+) -> State
+    requires { ⌜ Ready (now sheet) x i s (now stacks) (now query) ⌝ }
+    ensures { λ r. ⌜ Handled (now (sheet .entry)) x i formatBlockComment s (now (stacks .entry)) (now (query .entry)) r (now (stacks .entry)) (now (query .exit)) ⌝ }
 {
     let v = value_of(sheet, x, i);
-    let stacks = s.indentation;
-    let level = stacks.indent_level(false);
+    let indentation = s.indentation;
+    let level = indentation.indent_level(stacks, false);
     let t = s.text;
     let o = x.options;
     let u = query::format_block_comment(query, t, sheet, v, o, level);

@@ -2,9 +2,13 @@
 use mathlib.Core.Path.{_≡_, refl, sym, ap, _∙_}
 use mathlib.Core.Bool.{Bool}
 use mathlib.Core.List.{List, [], _∷_, _++_}
-use Prim.Native.Nat.{ℕ, _+_, _-_, _≤_, _<_}
+use Prim.Native.Nat.{ℕ, _+_, _-_, _*_, _≤_, _<_}
 use native.Mathlib.Omega.{arith}
-use lib.ListN.{length, take, drop, replicate}
+use mathlib.Core.Logic.{⊎-elim}
+use lib.ListN.{length, take, drop, replicate, getD, getD-replicate, length-replicate, List·getD-eq-default}
+use Rattle.stacks.specs.Laws.{lt-or-le}
+use Rattle.indentation.proofs.StandLaws.{by-zero}
+use Rattle.inline_block.proofs.Laws.{by-new}
 use Rattle.rules.specs.declared.TokenKind.{TokenKind}
 use Rattle.rules.specs.declared.Turn.{Turn}
 use Rattle.rules.specs.declared.Turn.the-variants as turn
@@ -39,63 +43,81 @@ use Rattle.state.specs.Below.{none-below, below-up}
 use Rattle.state.specs.Of.{valueIn, wordOf, stateOf, Known, Steady, Ready, envIn, hereIn, Handled}
 use Rattle.state.proofs.Laws.{value-is}
 use Rattle.formatter.specs.declared.Going.{Going}
-use Rattle.formatter.specs.Run.{tokenRule, kindIn, answerIn, Begun, Stepped}
+use Rattle.formatter.specs.Run.{tokenRule, kindIn, answerIn, noStacks, Begun, Stepped}
 
 -- ---- the first state
 
-pub by-begun : (cap : ℕ) (q : List ℕ) (t : CodeText) (i : Stacks) (b : InlineBlock) (w : CodeSwitch) → Laid cap (fits []) t q → stacks.Stands noIndentation i → block.Stands [] b → switchOf w ≡ switchedOn
+no-words : (k : ℕ) → getD noStacks k 0 ≡ 0
+unfolding noStacks
+no-words k = ⊎-elim (λ (h : k < 1287). getD-replicate {A = ℕ} 1287 k 0 0 h) (λ (h : 1287 ≤ k). List·getD-eq-default (replicate 1287 0) 0 {n = k} (rw (length-replicate {A = ℕ} 1287 0) h)) (lt-or-le k 1287)
+
+no-long : length noStacks ≡ 1287
+unfolding noStacks
+no-long = length-replicate {A = ℕ} 1287 0
+
+no-stacks : stacks.Stands noIndentation noStacks stacks.noCounts noStacks
+no-stacks =
+    by-zero noStacks noStacks
+    (record { long = no-long; flags = λ k h. record { before = rw (no-words (256 + 7 * k + 2)) (omega arith); after = rw (no-words (256 + 7 * k + 3)) (omega arith); top = rw (no-words (256 + 7 * k + 6)) (omega arith) } })
+    refl (λ k h. no-words k) stacks.noCounts refl (λ k h. refl)
+
+no-blocks : block.Stands [] noStacks block.noBlocks noStacks
+no-blocks = by-new noStacks no-long (λ k h. no-words (1159 + k))
+
+pub by-begun : (cap : ℕ) (q : List ℕ) (t : CodeText) (i : Stacks) (b : InlineBlock) (w : CodeSwitch) → Laid cap (fits []) t q → i ≡ stacks.noCounts → b ≡ block.noBlocks → switchOf w ≡ switchedOn
     → Begun (record { state = record { text = t; indentation = i; «inline_block» = b; «block_level» = 0; index = 0 }; switch = w }) cap q
 unfolding stateOf start codeOf
-by-begun cap q t i b w p si sb sw =
-    record {
+by-begun cap q t i b w p ei eb sw =
+    rw (ei, eb)
+    (record {
       room = p .room;
       fine = ap (λ (x : CodeText). x .fault) (p .code);
       steady = record {
         held = p .held;
-        stacks = si .clean;
-        words = rw (si .is) (none-below 0);
-        inlined = sb .clean;
+        stacks = no-stacks .clean;
+        words = rw (no-stacks .is) (none-below 0);
+        inlined = no-blocks .clean;
         level = omega arith;
         index = omega arith;
       };
-      state = λ s base. rw (p .text, si .is, sb .is, none-words);
+      state = λ s base. rw (p .text, no-stacks .is, no-blocks .is, none-words);
       switch = sw;
-    }
+    })
 
 -- ---- one token
 
-module _ (s : List ℕ) (x : Context) (i : ℕ) (st : Code) (d : List ℕ) (ready : Ready s x i st d) where
-  pub same-state : (f : Env → Here → State → State) → ((e : Env) (h : Here) (u : State) → f e h u ≡ u) → Handled s x i f st d st d
+module _ (s : List ℕ) (x : Context) (i : ℕ) (st : Code) (m d : List ℕ) (ready : Ready s x i st m d) where
+  pub same-state : (f : Env → Here → State → State) → ((e : Env) (h : Here) (u : State) → f e h u ≡ u) → Handled s x i f st m d st m d
   same-state f e =
       let k = ready .steady in
       let l = k .level in
-      let m = k .index in
+      let n = k .index in
       record {
         room = refl;
         steady = record { held = k .held; stacks = k .stacks; words = below-up (omega arith) (k .words); inlined = k .inlined; level = omega arith; index = omega arith };
-        state = sym (e (envIn s x (length d)) (hereIn s x i) (stateOf s (x .base) st d));
+        state = sym (e (envIn s x (length d)) (hereIn s x i) (stateOf s (x .base) st m d));
       }
 
-  pub by-dropped : (t : Turn) → t ≡ turn.Dropped → Handled s x i (takenAs t) st d st d
+  pub by-dropped : (t : Turn) → t ≡ turn.Dropped → Handled s x i (takenAs t) st m d st m d
   unfolding takenAs
   by-dropped t q = rw q (same-state (takenAs turn.Dropped) (λ e h u. refl))
 
-  pub by-switch : (t : Turn) (off : Bool) → t ≡ turn.Switches off → Handled s x i (takenAs t) st d st d
+  pub by-switch : (t : Turn) (off : Bool) → t ≡ turn.Switches off → Handled s x i (takenAs t) st m d st m d
   unfolding takenAs
   by-switch t off q = rw q (same-state (takenAs (turn.Switches off)) (λ e h u. refl))
 
-  pub by-laid-out : (t : Turn) (r : Code) (q : List ℕ) → t ≡ turn.LaidOut → Handled s x i tokenRule st d r q → Handled s x i (takenAs t) st d r q
+  pub by-laid-out : (t : Turn) (r : Code) (n q : List ℕ) → t ≡ turn.LaidOut → Handled s x i tokenRule st m d r n q → Handled s x i (takenAs t) st m d r n q
   unfolding takenAs
-  by-laid-out t r q e h = rw e (record { room = h .room; steady = h .steady; state = h .state })
+  by-laid-out t r n q e h = rw e (record { room = h .room; steady = h .steady; state = h .state })
 
-  pub by-copied : (t : Turn) (r : Code) (q : List ℕ) → t ≡ turn.Copied → Handled s x i formatNoChange st d r q → Handled s x i (takenAs t) st d r q
+  pub by-copied : (t : Turn) (r : Code) (n q : List ℕ) → t ≡ turn.Copied → Handled s x i formatNoChange st m d r n q → Handled s x i (takenAs t) st m d r n q
   unfolding takenAs
-  by-copied t r q e h = rw e (record { room = h .room; steady = h .steady; state = h .state })
+  by-copied t r n q e h = rw e (record { room = h .room; steady = h .steady; state = h .state })
 
-pub by-step : (s : List ℕ) (x : Context) (i : ℕ) (g : Going) (d : List ℕ) (v : Value) (k : TokenKind) (t : Turn) (r : Code) (w : CodeSwitch) (q : List ℕ)
-    → v ≡ valueIn s x i → k ≡ kindIn s x i → t ≡ turnOf (switchOf (g .switch)) k (take (v .len) (drop (v .start) s)) → Handled s x i (takenAs t) (g .state) d r q → switchOf w ≡ switchAfter t (switchOf (g .switch))
-    → Stepped s x i g d (record { state = r; switch = w }) q
-by-step s x i g d v k t r w q ev ek et h es =
+pub by-step : (s : List ℕ) (x : Context) (i : ℕ) (g : Going) (m d : List ℕ) (v : Value) (k : TokenKind) (t : Turn) (r : Code) (w : CodeSwitch) (n q : List ℕ)
+    → v ≡ valueIn s x i → k ≡ kindIn s x i → t ≡ turnOf (switchOf (g .switch)) k (take (v .len) (drop (v .start) s)) → Handled s x i (takenAs t) (g .state) m d r n q → switchOf w ≡ switchAfter t (switchOf (g .switch))
+    → Stepped s x i g m d (record { state = r; switch = w }) n q
+by-step s x i g m d v k t r w n q ev ek et h es =
     let e : t ≡ turnOf (switchOf (g .switch)) (kindIn s x i) (wordOf s (x .base) i) = et ∙ rw (ek, value-is s x i v ev) in
     record { taken = rw e at h; switch = es ∙ rw e }
 
@@ -113,23 +135,23 @@ by-buffer d q t z e = rw (text-fits t d z) (e ∙ rw (text-fits t d z))
 -- ---- the run: what is left at token i is the whole answer
 
 -- the answer of what is left at token i, in a buffer of cap bytes
-abbrev pub leftAt : List ℕ → Context → ℕ → ℕ → Going → List ℕ → Answer
-leftAt s x cap i g q = runFrom (envIn s x cap) s (x .base) (x .counts .tokens) i (switchOf (g .switch)) (stateOf s (x .base) (g .state) q)
+abbrev pub leftAt : List ℕ → Context → ℕ → ℕ → Going → List ℕ → List ℕ → Answer
+leftAt s x cap i g m q = runFrom (envIn s x cap) s (x .base) (x .counts .tokens) i (switchOf (g .switch)) (stateOf s (x .base) (g .state) m q)
 
-pub by-start : (s : List ℕ) (x : Context) (g : Going) (cap : ℕ) (q : List ℕ) → Known s x → Begun g cap q → leftAt s x cap 0 g q ≡ answerIn s x cap
+pub by-start : (s : List ℕ) (x : Context) (g : Going) (cap : ℕ) (q : List ℕ) → Known s x → Begun g cap q → leftAt s x cap 0 g noStacks q ≡ answerIn s x cap
 by-start s x g cap q known b = rw (b .state s (x .base), b .switch, known .base) (sym (run-all (envIn s x cap) s (x .counts)))
 
-module _ (s : List ℕ) (x : Context) (i : ℕ) (g : Going) (d : List ℕ) (r : Going) (q : List ℕ) (a : Answer) (cap : ℕ) (room : length d ≡ cap) (here : i < x .counts .tokens)
-    (st : Stepped s x i g d r q) (left : leftAt s x cap i g d ≡ a) where
+module _ (s : List ℕ) (x : Context) (i : ℕ) (g : Going) (m d : List ℕ) (r : Going) (n q : List ℕ) (a : Answer) (cap : ℕ) (room : length d ≡ cap) (here : i < x .counts .tokens)
+    (st : Stepped s x i g m d r n q) (left : leftAt s x cap i g m d ≡ a) where
   -- a turn of the rules' run
-  turned : unlessRefused (textOf (r .state .text) q) i (leftAt s x cap (i + 1) r q) ≡ a
+  turned : unlessRefused (textOf (r .state .text) q) i (leftAt s x cap (i + 1) r n q) ≡ a
   unfolding stateOf
   turned =
-      let h : stateOf s (x .base) (r .state) q ≡ takenAs (turnOf (switchOf (g .switch)) (tokenOf s (x .base) i .kind) (tokenOf s (x .base) i .value)) (envIn s x cap) (hereIn s x i) (stateOf s (x .base) (g .state) d) = rw room at (st .taken .state) in
+      let h : stateOf s (x .base) (r .state) n q ≡ takenAs (turnOf (switchOf (g .switch)) (tokenOf s (x .base) i .kind) (tokenOf s (x .base) i .value)) (envIn s x cap) (hereIn s x i) (stateOf s (x .base) (g .state) m d) = rw room at (st .taken .state) in
       rw (st .switch) (ap (λ (u : State). unlessRefused (u .text) i (runFrom (envIn s x cap) s (x .base) (x .counts .tokens) (i + 1) (switchAfter (turnOf (switchOf (g .switch)) (tokenOf s (x .base) i .kind) (tokenOf s (x .base) i .value)) (switchOf (g .switch))) u)) h
-      ∙ sym (run-turn (envIn s x cap) s (x .base) (x .counts .tokens) i (switchOf (g .switch)) (stateOf s (x .base) (g .state) d) here) ∙ left)
+      ∙ sym (run-turn (envIn s x cap) s (x .base) (x .counts .tokens) i (switchOf (g .switch)) (stateOf s (x .base) (g .state) m d) here) ∙ left)
 
-  pub by-turn : r .state .text .fault ≡ 0 → leftAt s x cap (i + 1) r q ≡ a
+  pub by-turn : r .state .text .fault ≡ 0 → leftAt s x cap (i + 1) r n q ≡ a
   unfolding unlessRefused
   by-turn z = sym (rw (text-fits (r .state .text) q z)) ∙ turned
 
@@ -144,50 +166,50 @@ module _ (s : List ℕ) (x : Context) (i : ℕ) (g : Going) (d : List ℕ) (r : 
   pub by-zeros : (r .state .text .fault ≡ 0 → ⊥) → q ≡ bufferOf cap a
   unfolding bufferOf bytesOf
   by-zeros z =
-      let m = laid-same (r .state .text) q (st .taken .steady .held) .bytes in
-      rw (refused-at z) (m ∙ rw (text-refused (r .state .text) q z, st .taken .room, room))
+      let y = laid-same (r .state .text) q (st .taken .steady .held) .bytes in
+      rw (refused-at z) (y ∙ rw (text-refused (r .state .text) q z, st .taken .room, room))
 
 -- the last token is taken
-pub by-end : (s : List ℕ) (x : Context) (cap i : ℕ) (g : Going) (q : List ℕ) (a : Answer) → x .counts .tokens ≤ i → leftAt s x cap i g q ≡ a → finish (textOf (g .state .text) q) ≡ a
+pub by-end : (s : List ℕ) (x : Context) (cap i : ℕ) (g : Going) (m q : List ℕ) (a : Answer) → x .counts .tokens ≤ i → leftAt s x cap i g m q ≡ a → finish (textOf (g .state .text) q) ≡ a
 unfolding stateOf
-by-end s x cap i g q a h left = sym (run-end (envIn s x cap) s (x .base) (x .counts .tokens) i (switchOf (g .switch)) (stateOf s (x .base) (g .state) q) h) ∙ left
+by-end s x cap i g m q a h left = sym (run-end (envIn s x cap) s (x .base) (x .counts .tokens) i (switchOf (g .switch)) (stateOf s (x .base) (g .state) m q) h) ∙ left
 
 -- ---- the loop
 
 -- what holds at token i: the text is not refused, and what is left is the whole answer
-pub record Running (s : List ℕ) (x : Context) (cap i : ℕ) (g : Going) (q : List ℕ) : Type 0 where
+pub record Running (s : List ℕ) (x : Context) (cap i : ℕ) (g : Going) (m q : List ℕ) : Type 0 where
   pub few : i ≤ x .counts .tokens
   pub room : length q ≡ cap
   pub fine : g .state .text .fault ≡ 0
-  pub steady : Steady i (g .state) q
-  pub left : leftAt s x cap i g q ≡ answerIn s x cap
+  pub steady : Steady i (g .state) m q
+  pub left : leftAt s x cap i g m q ≡ answerIn s x cap
 
-pub run-starts : (s : List ℕ) (x : Context) (g : Going) (cap : ℕ) (q : List ℕ) → Known s x → Begun g cap q → Running s x cap 0 g q
+pub run-starts : (s : List ℕ) (x : Context) (g : Going) (cap : ℕ) (q : List ℕ) → Known s x → Begun g cap q → Running s x cap 0 g noStacks q
 run-starts s x g cap q known b = record { few = omega arith; room = b .room; fine = b .fine; steady = b .steady; left = by-start s x g cap q known b }
 
-pub run-ready : (s : List ℕ) (x : Context) (cap i : ℕ) (g : Going) (q : List ℕ) → Known s x → i < x .counts .tokens → Running s x cap i g q → Ready s x i (g .state) q
-run-ready s x cap i g q known here r = record { known = known; here = here; steady = r .steady }
+pub run-ready : (s : List ℕ) (x : Context) (cap i : ℕ) (g : Going) (m q : List ℕ) → Known s x → i < x .counts .tokens → Running s x cap i g m q → Ready s x i (g .state) m q
+run-ready s x cap i g m q known here r = record { known = known; here = here; steady = r .steady }
 
-module _ (s : List ℕ) (x : Context) (cap i : ℕ) (g : Going) (d : List ℕ) (r : Going) (q : List ℕ) (run : Running s x cap i g d) (here : i < x .counts .tokens) (st : Stepped s x i g d r q) where
-  pub run-goes : r .state .text .fault ≡ 0 → Running s x cap (i + 1) r q
+module _ (s : List ℕ) (x : Context) (cap i : ℕ) (g : Going) (m d : List ℕ) (r : Going) (n q : List ℕ) (run : Running s x cap i g m d) (here : i < x .counts .tokens) (st : Stepped s x i g m d r n q) where
+  pub run-goes : r .state .text .fault ≡ 0 → Running s x cap (i + 1) r n q
   run-goes z =
       record {
         few = omega arith;
         room = st .taken .room ∙ run .room;
         fine = z;
         steady = st .taken .steady;
-        left = by-turn s x i g d r q (answerIn s x cap) cap (run .room) here st (run .left) z;
+        left = by-turn s x i g m d r n q (answerIn s x cap) cap (run .room) here st (run .left) z;
       }
 
   pub run-refused : (r .state .text .fault ≡ 0 → ⊥) → record { refusal = r .state .text .fault; place = i; length = 0; lines = 0; width = 0 } ≡ reportOf (answerIn s x cap)
-  run-refused z = by-refused s x i g d r q (answerIn s x cap) cap (run .room) here st (run .left) z
+  run-refused z = by-refused s x i g m d r n q (answerIn s x cap) cap (run .room) here st (run .left) z
 
   pub run-zeros : (r .state .text .fault ≡ 0 → ⊥) → q ≡ bufferOf cap (answerIn s x cap)
-  run-zeros z = by-zeros s x i g d r q (answerIn s x cap) cap (run .room) here st (run .left) z
+  run-zeros z = by-zeros s x i g m d r n q (answerIn s x cap) cap (run .room) here st (run .left) z
 
-module _ (s : List ℕ) (x : Context) (cap i : ℕ) (g : Going) (d q : List ℕ) (run : Running s x cap i g d) (over : x .counts .tokens ≤ i) where
+module _ (s : List ℕ) (x : Context) (cap i : ℕ) (g : Going) (m d q : List ℕ) (run : Running s x cap i g m d) (over : x .counts .tokens ≤ i) where
   pub run-reports : (p : Report) → p ≡ reportOf (finish (textOf (g .state .text) d)) → p ≡ reportOf (answerIn s x cap)
-  run-reports p e = e ∙ ap reportOf (by-end s x cap i g d (answerIn s x cap) over (run .left))
+  run-reports p e = e ∙ ap reportOf (by-end s x cap i g m d (answerIn s x cap) over (run .left))
 
   pub run-fills : q ≡ bufferOf (length d) (finish (textOf (g .state .text) d)) → q ≡ bufferOf cap (answerIn s x cap)
-  run-fills e = e ∙ rw (run .room, by-end s x cap i g d (answerIn s x cap) over (run .left))
+  run-fills e = e ∙ rw (run .room, by-end s x cap i g m d (answerIn s x cap) over (run .left))

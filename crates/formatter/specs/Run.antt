@@ -2,7 +2,7 @@
 use mathlib.Core.Path.{_≡_}
 use mathlib.Core.List.{List, []}
 use Prim.Native.Nat.{ℕ, _+_, _≤_}
-use lib.ListN.{length}
+use lib.ListN.{length, replicate}
 use Rattle.rules.specs.declared.TokenKind.{TokenKind}
 use Rattle.rules.specs.Tokens.{Here}
 use Rattle.rules.specs.Words.{tokenAt}
@@ -27,15 +27,19 @@ kindIn s x i = tokenOf s (x .base) i .kind
 abbrev pub answerIn : List ℕ → Context → ℕ → Answer
 answerIn s x room = format (envIn s x room) (tokensOf s (x .counts))
 
+-- the memory of the stacks before the first token
+unfoldable pub noStacks : List ℕ
+noStacks = replicate 1287 0
+
 -- the first state, in a buffer of cap bytes
 pub record Begun (g : Going) (cap : ℕ) (q : List ℕ) : Type 0 where
   pub room : length q ≡ cap
   pub fine : g .state .text .fault ≡ 0
-  pub steady : Steady 0 (g .state) q
-  pub state : (s : List ℕ) (base : ℕ) → stateOf s base (g .state) q ≡ start
+  pub steady : Steady 0 (g .state) noStacks q
+  pub state : (s : List ℕ) (base : ℕ) → stateOf s base (g .state) noStacks q ≡ start
   pub switch : switchOf (g .switch) ≡ switchedOn
 
 -- token i is taken as the switch says
-pub record Stepped (s : List ℕ) (x : Context) (i : ℕ) (g : Going) (d : List ℕ) (r : Going) (q : List ℕ) : Type 0 where
-  pub taken : Handled s x i (takenAs (turnOf (switchOf (g .switch)) (tokenOf s (x .base) i .kind) (tokenOf s (x .base) i .value))) (g .state) d (r .state) q
+pub record Stepped (s : List ℕ) (x : Context) (i : ℕ) (g : Going) (m d : List ℕ) (r : Going) (n q : List ℕ) : Type 0 where
+  pub taken : Handled s x i (takenAs (turnOf (switchOf (g .switch)) (tokenOf s (x .base) i .kind) (tokenOf s (x .base) i .value))) (g .state) m d (r .state) n q
   pub switch : switchOf (r .switch) ≡ switchAfter (turnOf (switchOf (g .switch)) (tokenOf s (x .base) i .kind) (tokenOf s (x .base) i .value)) (switchOf (g .switch))

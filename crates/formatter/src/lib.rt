@@ -27,50 +27,67 @@ struct Going {
 
 fn format_token(
     query: &mut [u8],
+    stacks: &mut [u32],
     s: State,
     sheet: &[u8],
     x: Context,
     i: usize,
     kind: TokenKind,
 ) -> State
-    requires { ⌜ Ready (now sheet) x i s (now query) ⌝ }
+    requires { ⌜ Ready (now sheet) x i s (now stacks) (now query) ⌝ }
     requires { ⌜ kind ≡ kindIn (now sheet) x i ⌝ }
-    ensures { λ r. ⌜ Handled (now (sheet .entry)) x i tokenRule s (now (query .entry)) r (now (query .exit)) ⌝ }
+    ensures { λ r. ⌜ Handled (now (sheet .entry)) x i tokenRule s (now (stacks .entry)) (now (query .entry)) r (now (stacks .exit)) (now (query .exit)) ⌝ }
 {
     match kind {
         TokenKind::Whitespace => s,
-        TokenKind::LineComment => comments::format_line_comment(query, s, sheet, x, i),
-        TokenKind::BlockComment => comments::format_block_comment(query, s, sheet, x, i),
+        TokenKind::LineComment => comments::format_line_comment(query, stacks, s, sheet, x, i),
+        TokenKind::BlockComment => comments::format_block_comment(query, stacks, s, sheet, x, i),
         TokenKind::ReservedTopLevel => top_level::format_top_level_reserved_word(
             query,
+            stacks,
             s,
             sheet,
             x,
             i,
         ),
         TokenKind::ReservedTopLevelNoIndent => {
-            top_level::format_top_level_reserved_word_no_indent(query, s, sheet, x, i)
+            top_level::format_top_level_reserved_word_no_indent(query, stacks, s, sheet, x, i)
         }
         TokenKind::ReservedNewlineAfter => {
-            top_level::format_newline_after_reserved_word(query, s, sheet, x, i)
+            top_level::format_newline_after_reserved_word(query, stacks, s, sheet, x, i)
         }
-        TokenKind::ReservedNewline => reserved::format_newline_reserved_word(query, s, sheet, x, i),
-        TokenKind::Reserved => reserved::format_reserved(query, s, sheet, x, i),
-        TokenKind::OpenParen => brackets::format_opening_parentheses(query, s, sheet, x, i),
-        TokenKind::CloseParen => brackets::format_closing_parentheses(query, s, sheet, x, i),
-        TokenKind::Placeholder => values::format_placeholder(query, s, sheet, x, i),
-        TokenKind::TypeSpecifier => comments::format_type_specifier(query, s, sheet, x, i),
-        TokenKind::String => values::format_by_value(query, s, sheet, x, i),
-        TokenKind::Operator => values::format_by_value(query, s, sheet, x, i),
-        TokenKind::Number => values::format_by_value(query, s, sheet, x, i),
-        TokenKind::Word => values::format_by_value(query, s, sheet, x, i),
-        TokenKind::Join => values::format_by_value(query, s, sheet, x, i),
+        TokenKind::ReservedNewline => reserved::format_newline_reserved_word(
+            query,
+            stacks,
+            s,
+            sheet,
+            x,
+            i,
+        ),
+        TokenKind::Reserved => reserved::format_reserved(query, stacks, s, sheet, x, i),
+        TokenKind::OpenParen => brackets::format_opening_parentheses(query, stacks, s, sheet, x, i),
+        TokenKind::CloseParen => brackets::format_closing_parentheses(
+            query,
+            stacks,
+            s,
+            sheet,
+            x,
+            i,
+        ),
+        TokenKind::Placeholder => values::format_placeholder(query, stacks, s, sheet, x, i),
+        TokenKind::TypeSpecifier => comments::format_type_specifier(query, stacks, s, sheet, x, i),
+        TokenKind::String => values::format_by_value(query, stacks, s, sheet, x, i),
+        TokenKind::Operator => values::format_by_value(query, stacks, s, sheet, x, i),
+        TokenKind::Number => values::format_by_value(query, stacks, s, sheet, x, i),
+        TokenKind::Word => values::format_by_value(query, stacks, s, sheet, x, i),
+        TokenKind::Join => values::format_by_value(query, stacks, s, sheet, x, i),
     }
 }
 
 // A switch comment and a dropped token do nothing else.
 fn taken_as(
     query: &mut [u8],
+    stacks: &mut [u32],
     s: State,
     sheet: &[u8],
     x: Context,
@@ -78,28 +95,28 @@ fn taken_as(
     kind: TokenKind,
     turn: Turn,
 ) -> State
-    requires { ⌜ Ready (now sheet) x i s (now query) ⌝ }
+    requires { ⌜ Ready (now sheet) x i s (now stacks) (now query) ⌝ }
     requires { ⌜ kind ≡ kindIn (now sheet) x i ⌝ }
-    ensures { λ r. ⌜ Handled (now (sheet .entry)) x i (takenAs turn) s (now (query .entry)) r (now (query .exit)) ⌝ }
+    ensures { λ r. ⌜ Handled (now (sheet .entry)) x i (takenAs turn) s (now (stacks .entry)) (now (query .entry)) r (now (stacks .exit)) (now (query .exit)) ⌝ }
 {
     match turn {
         Turn::Dropped => s,
         Turn::Switches(_) => s,
-        Turn::LaidOut => format_token(query, s, sheet, x, i, kind),
-        Turn::Copied => values::format_no_change(query, s, sheet, x, i),
+        Turn::LaidOut => format_token(query, stacks, s, sheet, x, i, kind),
+        Turn::Copied => values::format_no_change(query, stacks, s, sheet, x, i),
     }
 }
 
-fn step(query: &mut [u8], g: Going, sheet: &[u8], x: Context, i: usize) -> Going
-    requires { ⌜ Ready (now sheet) x i (g .state) (now query) ⌝ }
-    ensures { λ r. ⌜ Stepped (now (sheet .entry)) x i g (now (query .entry)) r (now (query .exit)) ⌝ }
+fn step(query: &mut [u8], stacks: &mut [u32], g: Going, sheet: &[u8], x: Context, i: usize) -> Going
+    requires { ⌜ Ready (now sheet) x i (g .state) (now stacks) (now query) ⌝ }
+    ensures { λ r. ⌜ Stepped (now (sheet .entry)) x i g (now (stacks .entry)) (now (query .entry)) r (now (stacks .exit)) (now (query .exit)) ⌝ }
 {
     let kind = tokens::kind_at(sheet, i);
     let v = value_of(sheet, x, i);
     let switch = g.switch;
     let turn = switch.turn_of(kind, sheet, v.start, v.len);
     let s = g.state;
-    let state = taken_as(query, s, sheet, x, i, kind, turn);
+    let state = taken_as(query, stacks, s, sheet, x, i, kind, turn);
     Going {
         state,
         switch: switch.after(turn),
@@ -148,9 +165,10 @@ pub fn format(query: &mut [u8], sheet: &[u8], x: Context) -> Report
     let c = x.counts;
     let n = c.tokens;
     let mut g = begin(query);
+    let mut stacks: [u32; 1287] = [0; 1287];
     let mut i: usize = 0;
     while i < n {
-        g = step(query, g, sheet, x, i);
+        g = step(query, &mut stacks, g, sheet, x, i);
         let s = g.state;
         let t = s.text;
         if t.fault != 0 {

@@ -19,10 +19,8 @@ use Rattle.rules.specs.InlineBlock.{full}
 use Rattle.rules.specs.Indentation.{Indentation, PreviousTokens, Closed, noIndentation, markReserved, markTopLevel, increaseTopLevel, increaseBlockLevel, decreaseTopLevel, popTop, decreaseBlockLevel, popBlock, setPreviousReserved, setPreviousTopLevel, lastTopLevel, lastReserved, previousReserved, previousTopLevelReserved, unfolded, indentLevel, span, noPrevious as noneBefore}
 use Rattle.stacks.specs.Stack.{stack, Kept}
 use Rattle.stacks.specs.Laws.{length-stack, stack-push, stack-put, stack-pop, stack-popped, kept-push, kept-put, kept-pop, every-set, kept-none, every-same}
-use Rattle.indentation.specs.declared.Indentation.{Indentation as Code}
-use Rattle.indentation.specs.declared.Closed.{Closed as CodeClosed}
 use Rattle.indentation.specs.declared.Previous.{Previous}
-use Rattle.indentation.specs.Of.{reservedAfter, topLevelAfter, typeOf, kindFor, weightOf, wordOf, topOf, previousOf, noPrevious, typesOf, indentationOf, lastOf, tops, endsTop, Told, Clean, Stands, StandsClosed}
+use Rattle.indentation.specs.Stacks.{Stacks as Code, ClosedStacks as CodeClosed, reservedAfter, topLevelAfter, typeOf, kindFor, weightOf, wordOf, topOf, previousOf, noPrevious, typesOf, indentationOf, lastOf, tops, endsTop, Told, Clean, Stands, StandsClosed}
 
 tops-within : (ts : List IndentType) → tops ts ≤ length ts
 unfolding tops

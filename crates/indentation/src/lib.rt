@@ -1,32 +1,32 @@
-// indentation.rs: the stacks of indent kinds, spans and previous words, by value.
+// indentation.rs: the stacks of indent kinds, spans and previous words, in a lent memory.
 ghost use mathlib.Core.Path.{_≡_};
 ghost use mathlib.Core.Bool.{Bool, true, false};
 ghost use Prim.Native.Nat.{ℕ, _+_, _-_, _≤_, _<_};
 ghost use Rattle.rules.specs.Indentation.{noIndentation, indentLevel, increaseTopLevel, increaseBlockLevel, decreaseTopLevel, decreaseBlockLevel, setPreviousReserved, setPreviousTopLevel, previousReserved, previousTopLevelReserved, unfolded, span as spanOf};
-ghost use Rattle.rules.specs.InlineBlock.{full};
-ghost use Rattle.indentation.specs.Of.{indentationOf, typesOf, noPrevious, endsTop, kindFor, weightOf, reservedAfter, topLevelAfter, lastOf, wordIn, spanIn, Clean, Stands, StandsClosed};
+ghost use lib.Dec.{leb};
+ghost use lib.ListN.{length, getD};
+ghost use Rattle.indentation.specs.Stacks.{noPrevious, endsTop, kindFor, weightOf, reservedAfter, topLevelAfter};
+ghost use Rattle.indentation.specs.Of.{noCounts, flagOf, previousAt, putPrevious, indentationOf, typesOf, lastOf, wordIn, spanIn, Clean, Stands, StandsClosed};
 use rules::SpanInfo;
 
 // The last top-level word's span, and the last reserved word: its token's number and one more, 0 where there is none.
 pub struct Previous {
     pub span: SpanInfo,
-    pub word: u16,
+    pub word: u32,
     pub top_level: bool,
 }
 
-// Kinds: 0 Top, 1 Block, 2 FoldedBlock. Entries above the counts are zero.
+// How many entries each stack has. The entries stand in a lent memory: kinds (0 Top, 1 Block, 2 FoldedBlock) from 0, spans from 128,
+// previous words from 256, seven words each. Entries above the counts are zero.
 pub struct Indentation {
-    pub kinds: [u8; 128],
     pub nkinds: usize,
-    pub spans: [u32; 128],
     pub nspans: usize,
-    pub previous: [Previous; 129],
     pub nprevious: usize,
 }
 
 // A token's number, where there is one.
 pub enum Word {
-    Token(u16),
+    Token(u32),
     Nothing,
 }
 
@@ -59,7 +59,7 @@ fn no_previous() -> Previous
     }
 }
 
-fn block_kind(folded: bool) -> u8
+fn block_kind(folded: bool) -> u32
     ensures { λ r. ⌜ r ≡ kindFor folded ⌝ }
 {
     if folded { 2 } else { 1 }
@@ -73,13 +73,53 @@ fn less(n: usize) -> usize
 }
 
 // What an entry adds to the indent.
-fn weight(kind: u8) -> usize
+fn weight(kind: u32) -> usize
     ensures { λ r. ⌜ (r ≡ weightOf kind) × (r ≤ 1) ⌝ }
 {
     if kind < 2 { 1 } else { 0 }
 }
 
-fn reserved_after(last: Previous, token: u16) -> Previous
+fn flag(b: bool) -> u32
+    ensures { λ r. ⌜ r ≡ flagOf b ⌝ }
+{
+    if b { 1 } else { 0 }
+}
+
+fn previous_at(stacks: &[u32], k: usize) -> Previous
+    requires { ⌜ (length (now stacks) ≡ 1287) × (k < 129) ⌝ }
+    ensures { λ r. ⌜ r ≡ previousAt (now (stacks .entry)) k ⌝ }
+{
+    let at = 256 + 7 * k;
+    let span = SpanInfo {
+        full_span: stacks[at],
+        blocks: stacks[at + 1],
+        newline_before: stacks[at + 2] != 0,
+        newline_after: stacks[at + 3] != 0,
+        arguments: stacks[at + 4],
+    };
+    Previous {
+        span,
+        word: stacks[at + 5],
+        top_level: stacks[at + 6] != 0,
+    }
+}
+
+fn put_previous(stacks: &mut [u32], k: usize, p: Previous)
+    requires { ⌜ (length (now stacks) ≡ 1287) × (k < 129) ⌝ }
+    ensures { λ r. ⌜ now (stacks .exit) ≡ putPrevious (now (stacks .entry)) k p ⌝ }
+{
+    let at = 256 + 7 * k;
+    let span = p.span;
+    stacks[at] = span.full_span;
+    stacks[at + 1] = span.blocks;
+    stacks[at + 2] = flag(span.newline_before);
+    stacks[at + 3] = flag(span.newline_after);
+    stacks[at + 4] = span.arguments;
+    stacks[at + 5] = p.word;
+    stacks[at + 6] = flag(p.top_level);
+}
+
+fn reserved_after(last: Previous, token: u32) -> Previous
     requires { ⌜ token < 65535 ⌝ }
     ensures { λ r. ⌜ r ≡ reservedAfter last token ⌝ }
 {
@@ -91,7 +131,7 @@ fn reserved_after(last: Previous, token: u16) -> Previous
     }
 }
 
-fn top_level_after(word: u16, span: SpanInfo) -> Previous
+fn top_level_after(word: u32, span: SpanInfo) -> Previous
     ensures { λ r. ⌜ r ≡ topLevelAfter word span ⌝ }
 {
     Previous {
@@ -103,83 +143,85 @@ fn top_level_after(word: u16, span: SpanInfo) -> Previous
 
 impl Indentation {
     pub fn new() -> Self
-        ensures { λ r. ⌜ Stands noIndentation r ⌝ }
+        ensures { λ r. ⌜ r ≡ noCounts ⌝ }
     {
-        let none = no_previous();
         Self {
-            kinds: [0; 128],
             nkinds: 0,
-            spans: [0; 128],
             nspans: 0,
-            previous: [none; 129],
             nprevious: 0,
         }
     }
 
-    pub fn reset_indentation(self) -> Self
-        ensures { λ r. ⌜ Stands noIndentation r ⌝ }
+    pub fn reset_indentation(self, stacks: &mut [u32]) -> Self
+        requires { ⌜ Clean self (now stacks) ⌝ }
+        ensures { λ r. ⌜ Stands noIndentation (now (stacks .entry)) r (now (stacks .exit)) ⌝ }
     {
+        let mut i: usize = 0;
+        while i < 1159 {
+            stacks[i] = 0;
+            i += 1;
+        }
         Self::new()
     }
 
-    pub fn increase_top_level(mut self, span: SpanInfo) -> Self
-        requires { ⌜ Clean self ⌝ }
-        ensures { λ r. ⌜ Stands (increaseTopLevel span (indentationOf self)) r ⌝ }
+    pub fn increase_top_level(mut self, stacks: &mut [u32], span: SpanInfo) -> Self
+        requires { ⌜ Clean self (now stacks) ⌝ }
+        ensures { λ r. ⌜ Stands (increaseTopLevel span (indentationOf self (now (stacks .entry)))) (now (stacks .entry)) r (now (stacks .exit)) ⌝ }
     {
         let k = self.nkinds;
         if 128 <= k {
             return self;
         }
         let s = self.nspans;
-        self.kinds[k] = 0;
+        stacks[k] = 0;
         self.nkinds = k + 1;
-        self.spans[s] = span.full_span;
+        stacks[128 + s] = span.full_span;
         self.nspans = s + 1;
         self
     }
 
-    pub fn increase_block_level(mut self, folded: bool) -> Self
-        requires { ⌜ Clean self ⌝ }
-        ensures { λ r. ⌜ Stands (increaseBlockLevel folded (indentationOf self)) r ⌝ }
+    pub fn increase_block_level(mut self, stacks: &mut [u32], folded: bool) -> Self
+        requires { ⌜ Clean self (now stacks) ⌝ }
+        ensures { λ r. ⌜ Stands (increaseBlockLevel folded (indentationOf self (now (stacks .entry)))) (now (stacks .entry)) r (now (stacks .exit)) ⌝ }
     {
         let k = self.nkinds;
         if 128 <= k {
             return self;
         }
         let p = self.nprevious;
-        self.kinds[k] = block_kind(folded);
+        stacks[k] = block_kind(folded);
         self.nkinds = k + 1;
-        self.previous[p] = no_previous();
+        put_previous(stacks, p, no_previous());
         self.nprevious = p + 1;
         self
     }
 
     // The top entry is a top-level one.
-    fn ends_top(self) -> bool
-        requires { ⌜ Clean self ⌝ }
-        ensures { λ r. ⌜ r ≡ endsTop (typesOf self) ⌝ }
+    fn ends_top(self, stacks: &[u32]) -> bool
+        requires { ⌜ Clean self (now stacks) ⌝ }
+        ensures { λ r. ⌜ r ≡ endsTop (typesOf self (now (stacks .entry))) ⌝ }
     {
         let k = self.nkinds;
         if k == 0 {
             return false;
         }
-        self.kinds[k - 1] == 0
+        stacks[k - 1] == 0
     }
 
     // A previous word goes too, though `increase_top_level` pushes none.
-    pub fn decrease_top_level(mut self) -> Self
-        requires { ⌜ Clean self ⌝ }
-        ensures { λ r. ⌜ Stands (decreaseTopLevel (indentationOf self)) r ⌝ }
+    pub fn decrease_top_level(mut self, stacks: &mut [u32]) -> Self
+        requires { ⌜ Clean self (now stacks) ⌝ }
+        ensures { λ r. ⌜ Stands (decreaseTopLevel (indentationOf self (now (stacks .entry)))) (now (stacks .entry)) r (now (stacks .exit)) ⌝ }
     {
-        if self.ends_top() {
+        if self.ends_top(stacks) {
             let k = less(self.nkinds);
             let s = less(self.nspans);
             let p = less(self.nprevious);
-            self.kinds[k] = 0;
+            stacks[k] = 0;
             self.nkinds = k;
-            self.spans[s] = 0;
+            stacks[128 + s] = 0;
             self.nspans = s;
-            self.previous[p] = no_previous();
+            put_previous(stacks, p, no_previous());
             self.nprevious = p;
             return self;
         }
@@ -187,10 +229,10 @@ impl Indentation {
     }
 
     // The top entry, which is no top-level one, goes with a previous word.
-    fn pop_block(mut self) -> Closed
-        requires { ⌜ Clean self ⌝ }
-        requires { ⌜ endsTop (typesOf self) ≡ false ⌝ }
-        ensures { λ r. ⌜ StandsClosed (decreaseBlockLevel (indentationOf self)) r ⌝ }
+    fn pop_block(mut self, stacks: &mut [u32]) -> Closed
+        requires { ⌜ Clean self (now stacks) ⌝ }
+        requires { ⌜ endsTop (typesOf self (now stacks)) ≡ false ⌝ }
+        ensures { λ r. ⌜ StandsClosed (decreaseBlockLevel (indentationOf self (now (stacks .entry)))) (now (stacks .entry)) r (now (stacks .exit)) ⌝ }
     {
         let n = self.nkinds;
         if n == 0 {
@@ -201,10 +243,10 @@ impl Indentation {
         }
         let k = n - 1;
         let p = less(self.nprevious);
-        let kind = self.kinds[k];
-        self.kinds[k] = 0;
+        let kind = stacks[k];
+        stacks[k] = 0;
         self.nkinds = k;
-        self.previous[p] = no_previous();
+        put_previous(stacks, p, no_previous());
         self.nprevious = p;
         Closed {
             folded: kind == 2,
@@ -212,65 +254,65 @@ impl Indentation {
         }
     }
 
-    pub fn decrease_block_level(self) -> Closed
-        requires { ⌜ Clean self ⌝ }
-        ensures { λ r. ⌜ StandsClosed (decreaseBlockLevel (indentationOf self)) r ⌝ }
+    pub fn decrease_block_level(self, stacks: &mut [u32]) -> Closed
+        requires { ⌜ Clean self (now stacks) ⌝ }
+        ensures { λ r. ⌜ StandsClosed (decreaseBlockLevel (indentationOf self (now (stacks .entry)))) (now (stacks .entry)) r (now (stacks .exit)) ⌝ }
     {
         let mut left = self;
-        while left.ends_top() {
-            left = left.decrease_top_level();
+        while left.ends_top(stacks) {
+            left = left.decrease_top_level(stacks);
         }
-        left.pop_block()
+        left.pop_block(stacks)
     }
 
-    pub fn set_previous_reserved(mut self, token: u16) -> Self
-        requires { ⌜ Clean self ⌝ }
+    pub fn set_previous_reserved(mut self, stacks: &mut [u32], token: u32) -> Self
+        requires { ⌜ Clean self (now stacks) ⌝ }
         requires { ⌜ token < 65535 ⌝ }
-        ensures { λ r. ⌜ Stands (setPreviousReserved token (indentationOf self)) r ⌝ }
+        ensures { λ r. ⌜ Stands (setPreviousReserved token (indentationOf self (now (stacks .entry)))) (now (stacks .entry)) r (now (stacks .exit)) ⌝ }
     {
         let n = self.nprevious;
         if n == 0 {
-            self.previous[0] = reserved_after(no_previous(), token);
+            put_previous(stacks, 0, reserved_after(no_previous(), token));
             self.nprevious = 1;
             return self;
         }
-        let last = self.previous[n - 1];
-        self.previous[n - 1] = reserved_after(last, token);
+        let last = previous_at(stacks, n - 1);
+        put_previous(stacks, n - 1, reserved_after(last, token));
         self
     }
 
-    pub fn set_previous_top_level(mut self, token: u16, span: SpanInfo) -> Self
-        requires { ⌜ Clean self ⌝ }
+    pub fn set_previous_top_level(mut self, stacks: &mut [u32], token: u32, span: SpanInfo) -> Self
+        requires { ⌜ Clean self (now stacks) ⌝ }
         requires { ⌜ token < 65535 ⌝ }
-        ensures { λ r. ⌜ Stands (setPreviousTopLevel token span (indentationOf self)) r ⌝ }
+        ensures { λ r. ⌜ Stands (setPreviousTopLevel token span (indentationOf self (now (stacks .entry)))) (now (stacks .entry)) r (now (stacks .exit)) ⌝ }
     {
         let n = self.nprevious;
         if n == 0 {
-            self.previous[0] = top_level_after(token + 1, span);
+            put_previous(stacks, 0, top_level_after(token + 1, span));
             self.nprevious = 1;
             return self;
         }
-        let last = self.previous[n - 1];
-        self.previous[n - 1] = top_level_after(last.word, span);
+        let last = previous_at(stacks, n - 1);
+        put_previous(stacks, n - 1, top_level_after(last.word, span));
         self
     }
 
-    fn last_previous(self) -> Previous
-        requires { ⌜ Clean self ⌝ }
-        ensures { λ r. ⌜ r ≡ lastOf self ⌝ }
+    fn last_previous(self, stacks: &[u32]) -> Previous
+        requires { ⌜ Clean self (now stacks) ⌝ }
+        ensures { λ r. ⌜ r ≡ lastOf self (now (stacks .entry)) ⌝ }
     {
         let n = self.nprevious;
         if n == 0 {
             return no_previous();
         }
-        self.previous[n - 1]
+        previous_at(stacks, n - 1)
     }
 
-    pub fn previous_reserved(self) -> Word
-        requires { ⌜ Clean self ⌝ }
-        ensures { λ r. ⌜ wordIn r ≡ previousReserved (indentationOf self) ⌝ }
+    pub fn previous_reserved(self, stacks: &[u32]) -> Word
+        requires { ⌜ Clean self (now stacks) ⌝ }
+        ensures { λ r. ⌜ wordIn r ≡ previousReserved (indentationOf self (now (stacks .entry))) ⌝ }
     {
-        let last = self.last_previous();
+        let last = self.last_previous(stacks);
         let w = last.word;
         if w == 0 {
             return Word::Nothing;
@@ -278,11 +320,11 @@ impl Indentation {
         Word::Token(w - 1)
     }
 
-    pub fn previous_top_level_reserved(self) -> TopLevel
-        requires { ⌜ Clean self ⌝ }
-        ensures { λ r. ⌜ spanIn r ≡ previousTopLevelReserved (indentationOf self) ⌝ }
+    pub fn previous_top_level_reserved(self, stacks: &[u32]) -> TopLevel
+        requires { ⌜ Clean self (now stacks) ⌝ }
+        ensures { λ r. ⌜ spanIn r ≡ previousTopLevelReserved (indentationOf self (now (stacks .entry))) ⌝ }
     {
-        let last = self.last_previous();
+        let last = self.last_previous(stacks);
         if last.top_level {
             let span = last.span;
             return TopLevel::Span(span);
@@ -290,43 +332,42 @@ impl Indentation {
         TopLevel::Nothing
     }
 
-    pub fn span(self) -> u32
-        requires { ⌜ Clean self ⌝ }
-        ensures { λ r. ⌜ r ≡ spanOf (indentationOf self) ⌝ }
+    pub fn span(self, stacks: &[u32]) -> u32
+        requires { ⌜ Clean self (now stacks) ⌝ }
+        ensures { λ r. ⌜ r ≡ spanOf (indentationOf self (now (stacks .entry))) ⌝ }
     {
         let n = self.nspans;
         if n == 0 {
             return 0;
         }
-        self.spans[n - 1]
+        stacks[128 + n - 1]
     }
 
     pub fn is_full(self) -> bool
-        requires { ⌜ Clean self ⌝ }
-        ensures { λ r. ⌜ r ≡ full (indentationOf self .indentTypes) ⌝ }
+        ensures { λ r. ⌜ r ≡ leb 128 (self .nkinds) ⌝ }
     {
         128 <= self.nkinds
     }
 
-    fn unfolded_count(self) -> usize
-        requires { ⌜ Clean self ⌝ }
-        ensures { λ r. ⌜ (r ≡ unfolded (typesOf self)) × (r ≤ 128) ⌝ }
+    fn unfolded_count(self, stacks: &[u32]) -> usize
+        requires { ⌜ Clean self (now stacks) ⌝ }
+        ensures { λ r. ⌜ (r ≡ unfolded (typesOf self (now (stacks .entry)))) × (r ≤ 128) ⌝ }
     {
         let n = self.nkinds;
         let mut i: usize = 0;
         let mut count: usize = 0;
         while i < n {
-            count += weight(self.kinds[i]);
+            count += weight(stacks[i]);
             i += 1;
         }
         count
     }
 
-    pub fn indent_level(self, folded: bool) -> usize
-        requires { ⌜ Clean self ⌝ }
-        ensures { λ r. ⌜ (r ≡ indentLevel folded (indentationOf self)) × (r ≤ 128) ⌝ }
+    pub fn indent_level(self, stacks: &[u32], folded: bool) -> usize
+        requires { ⌜ Clean self (now stacks) ⌝ }
+        ensures { λ r. ⌜ (r ≡ indentLevel folded (indentationOf self (now (stacks .entry)))) × (r ≤ 128) ⌝ }
     {
-        let n = self.unfolded_count();
+        let n = self.unfolded_count(stacks);
         if folded {
             return less(n);
         }

@@ -1,35 +1,31 @@
-// inline_block.rs: the open inline blocks by value. What a block holds is read ahead, in another crate.
+// inline_block.rs: the open inline blocks. What a block holds is read ahead, in another crate.
 ghost use mathlib.Core.Path.{_≡_};
-ghost use mathlib.Core.List.{[], tail};
-ghost use Prim.Native.Nat.{ℕ, _≤_};
-ghost use Rattle.rules.specs.InlineBlock.{isActive, curLen, full, beginIfPossible};
-ghost use Rattle.inline_block.specs.Of.{inlineBlockOf, Clean, Stands};
+ghost use mathlib.Core.List.{tail};
+ghost use lib.Dec.{leb, ltb};
+ghost use Rattle.rules.specs.InlineBlock.{curLen, beginIfPossible};
+ghost use Rattle.inline_block.specs.Of.{inlineBlockOf, noBlocks, Clean, Stands};
 
-// The lengths of the open inline blocks, the innermost last; entries above the level are zero.
+// How many inline blocks are open. Their lengths stand in a lent memory from 1159, the innermost last; entries above the level are zero.
 pub struct InlineBlock {
-    pub lengths: [u32; 128],
     pub level: usize,
 }
 
 impl InlineBlock {
     pub fn new() -> Self
-        ensures { λ r. ⌜ Stands [] r ⌝ }
+        ensures { λ r. ⌜ r ≡ noBlocks ⌝ }
     {
-        Self {
-            lengths: [0; 128],
-            level: 0,
-        }
+        Self { level: 0 }
     }
 
     // A full stack stays: refusal 7 is given before.
-    pub fn begin_if_possible(mut self, inlined: bool, length: u32) -> Self
-        requires { ⌜ Clean self ⌝ }
-        ensures { λ r. ⌜ Stands (beginIfPossible inlined length (inlineBlockOf self)) r ⌝ }
+    pub fn begin_if_possible(mut self, stacks: &mut [u32], inlined: bool, length: u32) -> Self
+        requires { ⌜ Clean self (now stacks) ⌝ }
+        ensures { λ r. ⌜ Stands (beginIfPossible inlined length (inlineBlockOf self (now (stacks .entry)))) (now (stacks .entry)) r (now (stacks .exit)) ⌝ }
     {
         let n = self.level;
         if inlined {
             if n < 128 {
-                self.lengths[n] = length;
+                stacks[1159 + n] = length;
                 self.level = n + 1;
                 return self;
             }
@@ -37,39 +33,39 @@ impl InlineBlock {
         self
     }
 
-    pub fn end(mut self) -> Self
-        requires { ⌜ Clean self ⌝ }
-        ensures { λ r. ⌜ Stands (tail (inlineBlockOf self)) r ⌝ }
+    pub fn end(mut self, stacks: &mut [u32]) -> Self
+        requires { ⌜ Clean self (now stacks) ⌝ }
+        ensures { λ r. ⌜ Stands (tail (inlineBlockOf self (now (stacks .entry)))) (now (stacks .entry)) r (now (stacks .exit)) ⌝ }
     {
         let n = self.level;
         if n == 0 {
             return self;
         }
-        self.lengths[n - 1] = 0;
+        stacks[1159 + n - 1] = 0;
         self.level = n - 1;
         self
     }
 
     pub fn is_active(self) -> bool
-        ensures { λ r. ⌜ r ≡ isActive (inlineBlockOf self) ⌝ }
+        ensures { λ r. ⌜ r ≡ ltb 0 (self .level) ⌝ }
     {
         0 < self.level
     }
 
     pub fn is_full(self) -> bool
-        ensures { λ r. ⌜ r ≡ full (inlineBlockOf self) ⌝ }
+        ensures { λ r. ⌜ r ≡ leb 128 (self .level) ⌝ }
     {
         128 <= self.level
     }
 
-    pub fn cur_len(self) -> u32
-        requires { ⌜ Clean self ⌝ }
-        ensures { λ r. ⌜ r ≡ curLen (inlineBlockOf self) ⌝ }
+    pub fn cur_len(self, stacks: &[u32]) -> u32
+        requires { ⌜ Clean self (now stacks) ⌝ }
+        ensures { λ r. ⌜ r ≡ curLen (inlineBlockOf self (now (stacks .entry))) ⌝ }
     {
         let n = self.level;
         if n == 0 {
             return 0;
         }
-        self.lengths[n - 1]
+        stacks[1159 + n - 1]
     }
 }

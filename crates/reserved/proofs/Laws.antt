@@ -5,7 +5,7 @@ use mathlib.Core.Option.{Option, none, some}
 use mathlib.Core.List.{List}
 use Prim.Native.Nat.{ℕ, _+_, _≤_, _<_}
 use native.Mathlib.Omega.{arith}
-use lib.Dec.{ltb}
+use lib.Dec.{leb, ltb}
 use lib.ListN.{length}
 use Rattle.rules.specs.declared.Case.{Case}
 use Rattle.rules.specs.declared.Limit.{Limit}
@@ -26,8 +26,10 @@ use Rattle.tokens.specs.Placed.{Inside}
 use Rattle.indentation.specs.Of.{spanIn, indentationOf, Clean, Stands}
 use Rattle.indentation.specs.declared.TopLevel.{TopLevel}
 use Rattle.indentation.specs.declared.TopLevel.the-variants as top
-use Rattle.indentation.specs.declared.Indentation.{Indentation as Stacks}
+use Rattle.indentation.specs.declared.Indentation.{Indentation as Counts}
+use Rattle.indentation.proofs.StandLaws.{full-is, onward}
 use Rattle.inline_block.specs.Of.{inlineBlockOf}
+use Rattle.inline_block.proofs.Laws.{active-is}
 use Rattle.query.specs.Query
 use Rattle.query.specs.declared.Value.{Value}
 use Rattle.query.proofs.Halves as halves
@@ -43,14 +45,14 @@ use Rattle.reserved.specs.Inlined.{whenI, indentLast, sixIn, indentedIn,
 
 -- ---- where a test holds
 
-module _ (b : Bool) (f : Indentation ℕ → Indentation ℕ) (i : Stacks) where
-  pub stands-then : (r : Stacks) → b ≡ true → Stands (f (indentationOf i)) r → Stands (whenI b f (indentationOf i)) r
+module _ (b : Bool) (f : Indentation ℕ → Indentation ℕ) (i : Counts) (m : List ℕ) where
+  pub stands-then : (r : Counts) (q : List ℕ) → b ≡ true → Stands (f (indentationOf i m)) m r q → Stands (whenI b f (indentationOf i m)) m r q
   unfolding whenI
-  stands-then r h s = rw h s
+  stands-then r q h s = rw h s
 
-  pub stands-else : b ≡ false → Clean i → Stands (whenI b f (indentationOf i)) i
+  pub stands-else : b ≡ false → Clean i m → Stands (whenI b f (indentationOf i m)) m i m
   unfolding whenI
-  stands-else h c = rw h (record { is = refl; clean = c })
+  stands-else h c = rw h (record { is = refl; clean = c; above = λ k a. refl })
 
 module _ (f : Indentation ℕ → Indentation ℕ) (i : Indentation ℕ) where
   pub when-below : (k : ℕ) (b : Bool) → Below k i → Below k (f i) → Below k (whenI b f i)
@@ -98,14 +100,15 @@ six-is none b = refl
 six-is (some sp) b = refl
 
 -- the last top-level word, as the code holds it
-module _ (b : Bool) (last : TopLevel) (i : Stacks) (h : b ≡ true) where
-  pub inlined-none : last ≡ top.Nothing → Clean i → Stands (whenI b (indentLast (spanIn last)) (indentationOf i)) i
+module _ (b : Bool) (last : TopLevel) (i : Counts) (m : List ℕ) (h : b ≡ true) where
+  pub inlined-none : last ≡ top.Nothing → Clean i m → Stands (whenI b (indentLast (spanIn last)) (indentationOf i m)) m i m
   unfolding whenI indentLast spanIn
-  inlined-none e c = rw (h, e) (record { is = refl; clean = c })
+  inlined-none e c = rw (h, e) (record { is = refl; clean = c; above = λ k a. refl })
 
-  pub inlined-span : (sp : SpanInfo) (r : Stacks) → last ≡ top.Span sp → Stands (whenI (not (sp .«newline_after»)) (increaseTopLevel sp) (indentationOf i)) r → Stands (whenI b (indentLast (spanIn last)) (indentationOf i)) r
+  pub inlined-span : (sp : SpanInfo) (r : Counts) (q : List ℕ) → last ≡ top.Span sp → Stands (whenI (not (sp .«newline_after»)) (increaseTopLevel sp) (indentationOf i m)) m r q
+      → Stands (whenI b (indentLast (spanIn last)) (indentationOf i m)) m r q
   unfolding whenI indentLast spanIn
-  inlined-span sp r e s = rw (h, e) s
+  inlined-span sp r q e s = rw (h, e) s
 
 pub six-none : (last : TopLevel) (b : Bool) → last ≡ top.Nothing → false ≡ sixIn (spanIn last) b
 unfolding sixIn spanIn
@@ -119,11 +122,11 @@ pub six-inlined : (last : TopLevel) (b : Bool) (sp : SpanInfo) → last ≡ top.
 unfolding sixIn spanIn
 six-inlined last b sp e h = rw (e, h)
 
-pub by-indented : (i : Stacks) (breaks : Bool) (n : ℕ) (last : TopLevel) (to noted : Stacks) (f six : Bool) (level : ℕ) → spanIn last ≡ previousTopLevelReserved (indentationOf i)
-    → Stands (whenI breaks (indentLast (spanIn last)) (indentationOf i)) to → Stands (setPreviousReserved n (indentationOf to)) noted → f ≡ full (indentationOf i .indentTypes) → six ≡ sixIn (spanIn last) f
-    → (level ≡ indentLevel false (indentationOf to)) × (level ≤ 128) → Indented (indentationOf i) breaks n (record { six = six; level = level; stacks = noted })
-by-indented i breaks n last to noted f six level hl ht hn hf hs hv =
-    record { six = hs ∙ rw (hl, hf); level = hv .0 ∙ rw (ht .is, hl); low = hv .1; stands = rw (← hl, ← ht .is) hn }
+pub by-indented : (i : Counts) (m : List ℕ) (breaks : Bool) (n : ℕ) (last : TopLevel) (to : Counts) (p : List ℕ) (noted : Counts) (q : List ℕ) (f six : Bool) (level : ℕ) → Clean i m → spanIn last ≡ previousTopLevelReserved (indentationOf i m)
+    → Stands (whenI breaks (indentLast (spanIn last)) (indentationOf i m)) m to p → Stands (setPreviousReserved n (indentationOf to p)) p noted q → f ≡ leb 128 (i .nkinds) → six ≡ sixIn (spanIn last) f
+    → (level ≡ indentLevel false (indentationOf to p)) × (level ≤ 128) → Indented (indentationOf i m) breaks n m (record { six = six; level = level; indentation = noted }) q
+by-indented i m breaks n last to p noted q f six level c hl ht hn hf hs hv =
+    record { six = hs ∙ rw (hl, hf, full-is i m c); level = hv .0 ∙ rw (ht .is, hl); low = hv .1; stands = onward _ _ m p q to noted ht (rw (← hl, ← ht .is) hn) }
 
 pub by-over : (limit : Limit) (most n : ℕ) → limit ≡ limits.Some most → ltb most n ≡ overLimit limit n
 unfolding overLimit
@@ -150,12 +153,12 @@ module _ (s : List ℕ) (x : Context) (i : ℕ) (known : Known s x) (v : Value) 
   unfolding formatReservedWord
   word-is room = rw (value-is s x i v ev, rules-case s (x .counts) room (x .options .casing) k (wordOf s (x .base) i) (ap (λ o. o .casing) (known .options)) ek)
 
-module _ (s : List ℕ) (x : Context) (i : ℕ) (st : Code) (d : List ℕ) (ready : Ready s x i st d) (v : Value) (ev : v ≡ valueIn s x i) (k : Case) (ek : k ≡ caseOf s (x .counts) (x .options .casing) (wordOf s (x .base) i)) (t : CodeText) (r : Code) (q : List ℕ) where
+module _ (s : List ℕ) (x : Context) (i : ℕ) (st : Code) (m d : List ℕ) (ready : Ready s x i st m d) (v : Value) (ev : v ≡ valueIn s x i) (k : Case) (ek : k ≡ caseOf s (x .counts) (x .options .casing) (wordOf s (x .base) i)) (t : CodeText) (r : Code) (p q : List ℕ) where
   abbrev now : State
-  now = stateOf s (x .base) st d
+  now = stateOf s (x .base) st m d
 
   abbrev before : Indentation ℕ
-  before = indentationOf (st .indentation)
+  before = indentationOf (st .indentation) m
 
   abbrev word : List ℕ
   word = written s x i (ready .known) v ev k ek
@@ -163,15 +166,15 @@ module _ (s : List ℕ) (x : Context) (i : ℕ) (st : Code) (d : List ℕ) (read
   below : Below (i + 1) before
   below = below-up (omega arith) (ready .steady .words)
 
-  pub by-reserved : (n : Stacks) → Stands (setPreviousReserved i before) n → Laid (length d) (Query.withSpaces (length d) word (textOf (st .text) d)) t q → r ≡ withIndentation st t n → Handled s x i formatReserved st d r q
+  pub by-reserved : (n : Counts) → Stands (setPreviousReserved i before) m n p → Laid (length d) (Query.withSpaces (length d) word (textOf (st .text) d)) t q → r ≡ withIndentation st t n → Handled s x i formatReserved st m d r p q
   unfolding envOf stateOf
-  by-reserved n stands laid m =
-      rw m (by-halves s x i formatReserved st d ready (Query.withSpaces (length d) word (textOf (st .text) d)) (setPreviousReserved i before) t n q laid stands (reserved-below (i + 1) before below i (omega arith))
+  by-reserved n stands laid y =
+      rw y (by-halves s x i formatReserved st m d ready (Query.withSpaces (length d) word (textOf (st .text) d)) (setPreviousReserved i before) t n p q laid stands (reserved-below (i + 1) before below i (omega arith))
       (rw (reserved-words, word-is s x i (ready .known) v ev k ek (length d)) (halves.reserved (envIn s x (length d)) (hereIn s x i) now)))
 
   -- ---- a newline word
 
-  module _ (comment active breaks : Bool) (n : ℕ) (l : Newline) (hc : comment ≡ afterLineComment (hereIn s x i)) (ha : active ≡ isActive (inlineBlockOf (st .«inline_block»))) (hn : n ≡ span before) (hb : breaks ≡ (comment || not active && overLimit (x .options .«max_inline_arguments») n)) (told : Indented before breaks i l) where
+  module _ (comment active breaks : Bool) (n : ℕ) (l : Newline) (hc : comment ≡ afterLineComment (hereIn s x i)) (ha : active ≡ ltb 0 (st .«inline_block» .level)) (hn : n ≡ span before) (hb : breaks ≡ (comment || not active && overLimit (x .options .«max_inline_arguments») n)) (told : Indented before breaks i m l p) where
     abbrev broken : Text
     broken = Query.newline (length d) (x .options) breaks (l .six) comment (l .level) word (textOf (st .text) d)
 
@@ -179,11 +182,11 @@ module _ (s : List ℕ) (x : Context) (i : ℕ) (st : Code) (d : List ℕ) (read
     unfolding envOf stateOf
     newline-ruled =
         let w = wordOf s (x .base) in
-        rw (told .six, six-is, told .level, level-words w, reserved-words, inlined-words, full-words w before, word-is s x i (ready .known) v ev k ek (length d), hb, hn, span-words w before, hc, ha, ready .known .options, ← last-top-level w before)
+        rw (told .six, six-is, told .level, level-words w, reserved-words, inlined-words, full-words w before, word-is s x i (ready .known) v ev k ek (length d), hb, hn, span-words w before, hc, ha, active-is (st .«inline_block») m, ready .known .options, ← last-top-level w before)
         (halves.newline-word (envIn s x (length d)) (hereIn s x i) now)
 
-    pub by-newline : Laid (length d) broken t q → r ≡ withIndentation st t (l .stacks) → Handled s x i formatNewlineReservedWord st d r q
-    by-newline laid m =
+    pub by-newline : Laid (length d) broken t q → r ≡ withIndentation st t (l .indentation) → Handled s x i formatNewlineReservedWord st m d r p q
+    by-newline laid y =
         let into : Below (i + 1) (indentedIn breaks before) = when-below (indentLast (previousTopLevelReserved before)) before (i + 1) breaks below (last-below before (i + 1) (previousTopLevelReserved before) below) in
-        rw m
-        (by-halves s x i formatNewlineReservedWord st d ready broken (setPreviousReserved i (indentedIn breaks before)) t (l .stacks) q laid (told .stands) (reserved-below (i + 1) (indentedIn breaks before) into i (omega arith)) newline-ruled)
+        rw y
+        (by-halves s x i formatNewlineReservedWord st m d ready broken (setPreviousReserved i (indentedIn breaks before)) t (l .indentation) p q laid (told .stands) (reserved-below (i + 1) (indentedIn breaks before) into i (omega arith)) newline-ruled)

@@ -2,6 +2,7 @@
 use mathlib.Core.Path.{_≡_}
 use mathlib.Core.Bool.{Bool, false, not, _&&_}
 use mathlib.Core.Option.{Option, none, some}
+use mathlib.Core.List.{List}
 use Prim.Native.Nat.{ℕ, _≤_}
 use Rattle.rules.specs.declared.SpanInfo.{SpanInfo}
 use Rattle.rules.specs.Base.{if_then_else_}
@@ -27,9 +28,9 @@ sixIn (some sp) full = not (sp .«newline_after») && full
 abbrev pub indentedIn : {W : Type 0} → Bool → Indentation W → Indentation W
 indentedIn breaks i = whenI breaks (indentLast (previousTopLevelReserved i)) i
 
--- the newline word is n
-pub record Indented (i : Indentation ℕ) (breaks : Bool) (n : ℕ) (r : Newline) : Type 0 where
+-- the newline word is n; m is the memory before, q after
+pub record Indented (i : Indentation ℕ) (breaks : Bool) (n : ℕ) (m : List ℕ) (r : Newline) (q : List ℕ) : Type 0 where
   pub six : r .six ≡ sixIn (previousTopLevelReserved i) (full (i .indentTypes))
   pub level : r .level ≡ indentLevel false (indentedIn breaks i)
   pub low : r .level ≤ 128
-  pub stands : Stands (setPreviousReserved n (indentedIn breaks i)) (r .stacks)
+  pub stands : Stands (setPreviousReserved n (indentedIn breaks i)) m (r .indentation) q

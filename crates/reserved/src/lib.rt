@@ -24,7 +24,7 @@ use tokens::value_at;
 pub struct Newline {
     pub six: bool,
     pub level: usize,
-    pub stacks: Indentation,
+    pub indentation: Indentation,
 }
 
 // ---- shared with the words that start a level
@@ -39,14 +39,19 @@ pub fn case_of(sheet: &[u8], x: Context, i: usize) -> Case
     case_for(sheet, c, casing, value_at(sheet, i))
 }
 
-pub fn increase_if(stacks: Indentation, b: bool, span: SpanInfo) -> Indentation
-    requires { ⌜ Clean stacks ⌝ }
-    ensures { λ r. ⌜ Stands (whenI b (increaseTopLevel span) (indentationOf stacks)) r ⌝ }
+pub fn increase_if(
+    stacks: &mut [u32],
+    indentation: Indentation,
+    b: bool,
+    span: SpanInfo,
+) -> Indentation
+    requires { ⌜ Clean indentation (now stacks) ⌝ }
+    ensures { λ r. ⌜ Stands (whenI b (increaseTopLevel span) (indentationOf indentation (now (stacks .entry)))) (now (stacks .entry)) r (now (stacks .exit)) ⌝ }
 {
     if b {
-        return stacks.increase_top_level(span);
+        return indentation.increase_top_level(stacks, span);
     }
-    stacks
+    indentation
 }
 
 // ---- a newline word
@@ -73,17 +78,22 @@ fn breaks_before(comment: bool, active: bool, limit: Limit, span: u32) -> bool
 }
 
 // A top-level word that was inlined is indented now.
-fn indent_inlined(stacks: Indentation, breaks: bool, last: TopLevel) -> Indentation
-    requires { ⌜ Clean stacks ⌝ }
-    ensures { λ r. ⌜ Stands (whenI breaks (indentLast (spanIn last)) (indentationOf stacks)) r ⌝ }
+fn indent_inlined(
+    stacks: &mut [u32],
+    indentation: Indentation,
+    breaks: bool,
+    last: TopLevel,
+) -> Indentation
+    requires { ⌜ Clean indentation (now stacks) ⌝ }
+    ensures { λ r. ⌜ Stands (whenI breaks (indentLast (spanIn last)) (indentationOf indentation (now (stacks .entry)))) (now (stacks .entry)) r (now (stacks .exit)) ⌝ }
 {
     if breaks {
         return match last {
-            TopLevel::Nothing => stacks,
-            TopLevel::Span(sp) => increase_if(stacks, !sp.newline_after, sp),
+            TopLevel::Nothing => indentation,
+            TopLevel::Span(sp) => increase_if(stacks, indentation, !sp.newline_after, sp),
         };
     }
-    stacks
+    indentation
 }
 
 fn six_inlined(last: TopLevel, full: bool) -> bool
@@ -101,30 +111,32 @@ fn six_inlined(last: TopLevel, full: bool) -> bool
 }
 
 // The word is token n.
-fn newline_level(stacks: Indentation, breaks: bool, n: u16) -> Newline
-    requires { ⌜ Clean stacks ⌝ }
+fn newline_level(stacks: &mut [u32], indentation: Indentation, breaks: bool, n: u32) -> Newline
+    requires { ⌜ Clean indentation (now stacks) ⌝ }
     requires { ⌜ n < 65535 ⌝ }
-    ensures { λ r. ⌜ Indented (indentationOf stacks) breaks n r ⌝ }
+    ensures { λ r. ⌜ Indented (indentationOf indentation (now (stacks .entry))) breaks n (now (stacks .entry)) r (now (stacks .exit)) ⌝ }
 {
-    let last = stacks.previous_top_level_reserved();
-    let to = indent_inlined(stacks, breaks, last);
-    let noted = to.set_previous_reserved(n);
+    let last = indentation.previous_top_level_reserved(stacks);
+    let to = indent_inlined(stacks, indentation, breaks, last);
+    let level = to.indent_level(stacks, false);
+    let noted = to.set_previous_reserved(stacks, n);
     Newline {
-        six: six_inlined(last, stacks.is_full()),
-        level: to.indent_level(false),
-        stacks: noted,
+        six: six_inlined(last, indentation.is_full()),
+        level,
+        indentation: noted,
     }
 }
 
 pub fn format_newline_reserved_word(
     query: &mut [u8],
+    stacks: &mut [u32],
     s: State,
     sheet: &[u8],
     x: Context,
     i: usize,
 ) -> State
-    requires { ⌜ Ready (now sheet) x i s (now query) ⌝ }
-    ensures { λ r. ⌜ Handled (now (sheet .entry)) x i formatNewlineReservedWord s (now (query .entry)) r (now (query .exit)) ⌝ }
+    requires { ⌜ Ready (now sheet) x i s (now stacks) (now query) ⌝ }
+    ensures { λ r. ⌜ Handled (now (sheet .entry)) x i formatNewlineReservedWord s (now (stacks .entry)) (now (query .entry)) r (now (stacks .exit)) (now (query .exit)) ⌝ }
 {
     let v = value_of(sheet, x, i);
     let k = case_of(sheet, x, i);
@@ -132,10 +144,10 @@ pub fn format_newline_reserved_word(
     let o = x.options;
     let limit = o.max_inline_arguments;
     let inline = s.inline_block;
-    let stacks = s.indentation;
+    let indentation = s.indentation;
     let comment = after_line_comment(sheet, x.base, c.tokens, i);
-    let breaks = breaks_before(comment, inline.is_active(), limit, stacks.span());
-    let l = newline_level(stacks, breaks, i as u16);
+    let breaks = breaks_before(comment, inline.is_active(), limit, indentation.span(stacks));
+    let l = newline_level(stacks, indentation, breaks, i as u32);
     let t = s.text;
     let u = query_reserved::format_newline_reserved_word(
         query,
@@ -149,20 +161,27 @@ pub fn format_newline_reserved_word(
         comment,
         l.level,
     );
-    let noted = l.stacks;
+    let noted = l.indentation;
     s.with_indentation(u, noted)
 }
 
 // ---- any other word
 
-pub fn format_reserved(query: &mut [u8], s: State, sheet: &[u8], x: Context, i: usize) -> State
-    requires { ⌜ Ready (now sheet) x i s (now query) ⌝ }
-    ensures { λ r. ⌜ Handled (now (sheet .entry)) x i formatReserved s (now (query .entry)) r (now (query .exit)) ⌝ }
+pub fn format_reserved(
+    query: &mut [u8],
+    stacks: &mut [u32],
+    s: State,
+    sheet: &[u8],
+    x: Context,
+    i: usize,
+) -> State
+    requires { ⌜ Ready (now sheet) x i s (now stacks) (now query) ⌝ }
+    ensures { λ r. ⌜ Handled (now (sheet .entry)) x i formatReserved s (now (stacks .entry)) (now (query .entry)) r (now (stacks .exit)) (now (query .exit)) ⌝ }
 {
     let v = value_of(sheet, x, i);
     let k = case_of(sheet, x, i);
-    let stacks = s.indentation;
-    let noted = stacks.set_previous_reserved(i as u16);
+    let indentation = s.indentation;
+    let noted = indentation.set_previous_reserved(stacks, i as u32);
     let t = s.text;
     let u = query_reserved::format_reserved(query, t, sheet, v, k);
     s.with_indentation(u, noted)

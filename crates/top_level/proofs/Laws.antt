@@ -5,7 +5,7 @@ use mathlib.Core.Option.{Option}
 use mathlib.Core.List.{List}
 use Prim.Native.Nat.{ℕ, _+_, _≤_, _<_}
 use native.Mathlib.Omega.{arith}
-use lib.Dec.{ltb}
+use lib.Dec.{leb, ltb}
 use lib.ListN.{length}
 use Rattle.rules.specs.declared.Case.{Case}
 use Rattle.rules.specs.declared.Limit.{Limit}
@@ -23,7 +23,8 @@ use Rattle.rules.specs.Formatter.{spanInfo, newlineBefore, formatTopLevelReserv
 use Rattle.text.specs.Held.{textOf, Laid}
 use Rattle.text.specs.declared.Text.{Text as CodeText}
 use Rattle.indentation.specs.Of.{spanIn, indentationOf, Stands}
-use Rattle.indentation.specs.declared.Indentation.{Indentation as Stacks}
+use Rattle.indentation.specs.declared.Indentation.{Indentation as Counts}
+use Rattle.indentation.proofs.StandLaws.{full-is, onward}
 use Rattle.indentation.specs.declared.TopLevel.{TopLevel}
 use Rattle.indentation.specs.declared.TopLevel.the-variants as top
 use Rattle.inline_block.specs.Of.{inlineBlockOf}
@@ -44,11 +45,19 @@ use Rattle.top_level.specs.Levels.{onSpan, outOf, intoOf, Turned}
 
 -- ---- the stacks around the word
 
-pub by-turned : (i : Stacks) (before after : Bool) (sp : SpanInfo) (n : ℕ) (from to noted : Stacks) (out into : ℕ) (six : Bool) → Stands (whenI before decreaseTopLevel (indentationOf i)) from
-    → Stands (whenI after (increaseTopLevel sp) (indentationOf from)) to → Stands (setPreviousTopLevel n sp (indentationOf to)) noted → (out ≡ indentLevel false (indentationOf from)) × (out ≤ 128)
-    → six ≡ full (indentationOf from .indentTypes) → (into ≡ indentLevel false (indentationOf to)) × (into ≤ 128) → Turned (indentationOf i) before after sp n (record { out = out; six = six; into = into; stacks = noted })
-by-turned i before after sp n from to noted out into six hf ht hn ho hs hi =
-    record { out = ho .0 ∙ rw (hf .is); out-low = ho .1; six = hs ∙ rw (hf .is); into = hi .0 ∙ rw (ht .is, hf .is); into-low = hi .1; stands = rw (← hf .is, ← ht .is) hn }
+pub by-turned : (i : Counts) (m : List ℕ) (before after : Bool) (sp : SpanInfo) (n : ℕ) (from : Counts) (p : List ℕ) (to : Counts) (o : List ℕ) (noted : Counts) (q : List ℕ) (out into : ℕ) (six : Bool)
+    → Stands (whenI before decreaseTopLevel (indentationOf i m)) m from p → Stands (whenI after (increaseTopLevel sp) (indentationOf from p)) p to o → Stands (setPreviousTopLevel n sp (indentationOf to o)) o noted q
+    → (out ≡ indentLevel false (indentationOf from p)) × (out ≤ 128) → six ≡ leb 128 (from .nkinds) → (into ≡ indentLevel false (indentationOf to o)) × (into ≤ 128)
+    → Turned (indentationOf i m) before after sp n m (record { out = out; six = six; into = into; indentation = noted }) q
+by-turned i m before after sp n from p to o noted q out into six hf ht hn ho hs hi =
+    record {
+      out = ho .0 ∙ rw (hf .is);
+      out-low = ho .1;
+      six = hs ∙ rw (full-is from p (hf .clean), hf .is);
+      into = hi .0 ∙ rw (ht .is, hf .is);
+      into-low = hi .1;
+      stands = onward _ _ m p q from noted hf (onward _ _ p o q to noted ht (rw (← hf .is, ← ht .is) hn));
+    }
 
 module _ (i : Indentation ℕ) (before after : Bool) (sp : SpanInfo) where
   out-words : (w : ℕ → List ℕ) → onWords w (outOf before i) ≡ halves.whenI before decreaseTopLevel (onWords w i)
@@ -91,12 +100,12 @@ by-limit limit o most len b e h = rw e h
 
 -- ---- the handlers
 
-module _ (s : List ℕ) (x : Context) (i : ℕ) (st : Code) (d : List ℕ) (ready : Ready s x i st d) (v : Value) (ev : v ≡ valueIn s x i) (k : Case) (ek : k ≡ caseOf s (x .counts) (x .options .casing) (wordOf s (x .base) i)) (len : ℕ) (hlen : len ≡ curLen (inlineBlockOf (st .«inline_block»))) (sp : SpanInfo) (hsp : sp ≡ topLevelTokensInfo (x .options) (st .«block_level») len (hereIn s x i .after)) (t : CodeText) (r : Code) (q : List ℕ) where
+module _ (s : List ℕ) (x : Context) (i : ℕ) (st : Code) (m d : List ℕ) (ready : Ready s x i st m d) (v : Value) (ev : v ≡ valueIn s x i) (k : Case) (ek : k ≡ caseOf s (x .counts) (x .options .casing) (wordOf s (x .base) i)) (len : ℕ) (hlen : len ≡ curLen (inlineBlockOf (st .«inline_block») m)) (sp : SpanInfo) (hsp : sp ≡ topLevelTokensInfo (x .options) (st .«block_level») len (hereIn s x i .after)) (t : CodeText) (r : Code) (p q : List ℕ) where
   abbrev now : State
-  now = stateOf s (x .base) st d
+  now = stateOf s (x .base) st m d
 
   abbrev stacks : Indentation ℕ
-  stacks = indentationOf (st .indentation)
+  stacks = indentationOf (st .indentation) m
 
   abbrev word : List ℕ
   word = written s x i (ready .known) v ev k ek
@@ -106,15 +115,15 @@ module _ (s : List ℕ) (x : Context) (i : ℕ) (st : Code) (d : List ℕ) (read
   span-is = hsp ∙ rw (hlen, ready .known .options)
 
   -- from what the handler does with this span
-  by-span : (f : Env → Here → SpanInfo → State → State) (before after : Bool) (l : Levels) (w : Text) → Turned stacks before after sp i l → Laid (length d) w t q → r ≡ withIndentation st t (l .stacks)
-      → f (envIn s x (length d)) (hereIn s x i) sp now ≡ halves.halves w (onWords (wordOf s (x .base)) (setPreviousTopLevel i sp (intoOf before after sp stacks))) now → Handled s x i (onSpan f) st d r q
-  by-span f before after l w told laid m e =
-      rw m
-      (by-halves s x i (onSpan f) st d ready w (setPreviousTopLevel i sp (intoOf before after sp stacks)) t (l .stacks) q laid (told .stands)
+  by-span : (f : Env → Here → SpanInfo → State → State) (before after : Bool) (l : Levels) (w : Text) → Turned stacks before after sp i m l p → Laid (length d) w t q → r ≡ withIndentation st t (l .indentation)
+      → f (envIn s x (length d)) (hereIn s x i) sp now ≡ halves.halves w (onWords (wordOf s (x .base)) (setPreviousTopLevel i sp (intoOf before after sp stacks))) now → Handled s x i (onSpan f) st m d r p q
+  by-span f before after l w told laid y e =
+      rw y
+      (by-halves s x i (onSpan f) st m d ready w (setPreviousTopLevel i sp (intoOf before after sp stacks)) t (l .indentation) p q laid (told .stands)
       (top-level-below (i + 1) (intoOf before after sp stacks) (into-below stacks before after sp (i + 1) (below-up (omega arith) (ready .steady .words))) i sp (omega arith)) (rw (← span-is) e))
 
   -- what the handler reads of its levels, in the rules' words
-  module _ (before after : Bool) (l : Levels) (told : Turned stacks before after sp i l) where
+  module _ (before after : Bool) (l : Levels) (told : Turned stacks before after sp i m l p) where
     abbrev out : Indentation (List ℕ)
     out = halves.whenI before decreaseTopLevel (onWords (wordOf s (x .base)) stacks)
 
@@ -133,32 +142,32 @@ module _ (s : List ℕ) (x : Context) (i : ℕ) (st : Code) (d : List ℕ) (read
     noted-is : onWords (wordOf s (x .base)) (setPreviousTopLevel i sp (intoOf before after sp stacks)) ≡ setPreviousTopLevel (wordOf s (x .base) i) sp into
     noted-is = rw (top-level-words, into-words stacks before after sp (wordOf s (x .base)))
 
-  pub by-top-level : (after : Bool) (l : Levels) → after ≡ (sp .«newline_after» && not (tokenAt s i .create)) → Turned stacks (sp .«newline_before») after sp i l
-      → Laid (length d) (Query.topLevel (length d) (x .options) (sp .«newline_before») (l .out) word after (l .six) (l .into) (textOf (st .text) d)) t q → r ≡ withIndentation st t (l .stacks)
-      → Handled s x i (onSpan formatTopLevelReservedWord) st d r q
+  pub by-top-level : (after : Bool) (l : Levels) → after ≡ (sp .«newline_after» && not (tokenAt s i .create)) → Turned stacks (sp .«newline_before») after sp i m l p
+      → Laid (length d) (Query.topLevel (length d) (x .options) (sp .«newline_before») (l .out) word after (l .six) (l .into) (textOf (st .text) d)) t q → r ≡ withIndentation st t (l .indentation)
+      → Handled s x i (onSpan formatTopLevelReservedWord) st m d r p q
   unfolding envOf stateOf
-  by-top-level after l ha told laid m =
+  by-top-level after l ha told laid y =
       let b = sp .«newline_before» in
-      by-span formatTopLevelReservedWord b after l (Query.topLevel (length d) (x .options) b (l .out) word after (l .six) (l .into) (textOf (st .text) d)) told laid m
+      by-span formatTopLevelReservedWord b after l (Query.topLevel (length d) (x .options) b (l .out) word after (l .six) (l .into) (textOf (st .text) d)) told laid y
       (rw (out-is b after l told, six-is b after l told, into-is b after l told, noted-is b after l told, word-is s x i (ready .known) v ev k ek (length d), ha, ready .known .options)
       (halves.top-level (envIn s x (length d)) (hereIn s x i) now sp))
 
-  pub by-no-indent : (l : Levels) → Turned stacks (sp .«newline_before») false sp i l
-      → Laid (length d) (Query.topLevel (length d) (x .options) (sp .«newline_before») (l .out) word (sp .«newline_after») false (l .into) (textOf (st .text) d)) t q → r ≡ withIndentation st t (l .stacks)
-      → Handled s x i (onSpan formatTopLevelReservedWordNoIndent) st d r q
+  pub by-no-indent : (l : Levels) → Turned stacks (sp .«newline_before») false sp i m l p
+      → Laid (length d) (Query.topLevel (length d) (x .options) (sp .«newline_before») (l .out) word (sp .«newline_after») false (l .into) (textOf (st .text) d)) t q → r ≡ withIndentation st t (l .indentation)
+      → Handled s x i (onSpan formatTopLevelReservedWordNoIndent) st m d r p q
   unfolding envOf stateOf halves.whenI
-  by-no-indent l told laid m =
+  by-no-indent l told laid y =
       let b = sp .«newline_before» in
-      by-span formatTopLevelReservedWordNoIndent b false l (Query.topLevel (length d) (x .options) b (l .out) word (sp .«newline_after») false (l .into) (textOf (st .text) d)) told laid m
+      by-span formatTopLevelReservedWordNoIndent b false l (Query.topLevel (length d) (x .options) b (l .out) word (sp .«newline_after») false (l .into) (textOf (st .text) d)) told laid y
       (rw (out-is b false l told, into-is b false l told, noted-is b false l told, word-is s x i (ready .known) v ev k ek (length d), ready .known .options)
       (halves.top-level-no-indent (envIn s x (length d)) (hereIn s x i) now sp))
 
   pub by-newline-after : (last : TopLevel) (n : ℕ) (before : Bool) (l : Levels) → n ≡ length (wordOf s (x .base) i) → spanIn last ≡ previousTopLevelReserved stacks
-      → before ≡ newlineBefore (x .options .«max_inline_top_level») (spanIn last) n → Turned stacks before true sp i l
-      → Laid (length d) (Query.newlineAfter (length d) (x .options) before (l .out) word (l .six) (l .into) (textOf (st .text) d)) t q → r ≡ withIndentation st t (l .stacks)
-      → Handled s x i (onSpan formatNewlineAfterReservedWord) st d r q
+      → before ≡ newlineBefore (x .options .«max_inline_top_level») (spanIn last) n → Turned stacks before true sp i m l p
+      → Laid (length d) (Query.newlineAfter (length d) (x .options) before (l .out) word (l .six) (l .into) (textOf (st .text) d)) t q → r ≡ withIndentation st t (l .indentation)
+      → Handled s x i (onSpan formatNewlineAfterReservedWord) st m d r p q
   unfolding envOf stateOf halves.whenI
-  by-newline-after last n before l hn hl hb told laid m =
-      by-span formatNewlineAfterReservedWord before true l (Query.newlineAfter (length d) (x .options) before (l .out) word (l .six) (l .into) (textOf (st .text) d)) told laid m
+  by-newline-after last n before l hn hl hb told laid y =
+      by-span formatNewlineAfterReservedWord before true l (Query.newlineAfter (length d) (x .options) before (l .out) word (l .six) (l .into) (textOf (st .text) d)) told laid y
       (rw (out-is before true l told, six-is before true l told, into-is before true l told, noted-is before true l told, word-is s x i (ready .known) v ev k ek (length d), hb, hn, hl, ← last-top-level (wordOf s (x .base)) stacks, ready .known .options)
       (halves.newline-after (envIn s x (length d)) (hereIn s x i) now sp))

@@ -32,7 +32,7 @@ pub struct Levels {
     pub out: usize,
     pub six: bool,
     pub into: usize,
-    pub stacks: Indentation,
+    pub indentation: Indentation,
 }
 
 // ---- the span, and the stacks around the word
@@ -46,30 +46,39 @@ fn span_info(sheet: &[u8], x: Context, i: usize, level: u32, block_len: u32) -> 
     top_level_tokens_info(sheet, x.base, c.tokens, i, level, o, block_len)
 }
 
-fn decrease_if(stacks: Indentation, b: bool) -> Indentation
-    requires { ⌜ Clean stacks ⌝ }
-    ensures { λ r. ⌜ Stands (whenI b decreaseTopLevel (indentationOf stacks)) r ⌝ }
+fn decrease_if(stacks: &mut [u32], indentation: Indentation, b: bool) -> Indentation
+    requires { ⌜ Clean indentation (now stacks) ⌝ }
+    ensures { λ r. ⌜ Stands (whenI b decreaseTopLevel (indentationOf indentation (now (stacks .entry)))) (now (stacks .entry)) r (now (stacks .exit)) ⌝ }
 {
     if b {
-        return stacks.decrease_top_level();
+        return indentation.decrease_top_level(stacks);
     }
-    stacks
+    indentation
 }
 
 // The word is token n.
-fn levels_around(stacks: Indentation, before: bool, after: bool, span: SpanInfo, n: u16) -> Levels
-    requires { ⌜ Clean stacks ⌝ }
+fn levels_around(
+    stacks: &mut [u32],
+    indentation: Indentation,
+    before: bool,
+    after: bool,
+    span: SpanInfo,
+    n: u32,
+) -> Levels
+    requires { ⌜ Clean indentation (now stacks) ⌝ }
     requires { ⌜ n < 65535 ⌝ }
-    ensures { λ r. ⌜ Turned (indentationOf stacks) before after span n r ⌝ }
+    ensures { λ r. ⌜ Turned (indentationOf indentation (now (stacks .entry))) before after span n (now (stacks .entry)) r (now (stacks .exit)) ⌝ }
 {
-    let from = decrease_if(stacks, before);
-    let to = increase_if(from, after, span);
-    let noted = to.set_previous_top_level(n, span);
+    let from = decrease_if(stacks, indentation, before);
+    let out = from.indent_level(stacks, false);
+    let to = increase_if(stacks, from, after, span);
+    let into = to.indent_level(stacks, false);
+    let noted = to.set_previous_top_level(stacks, n, span);
     Levels {
-        out: from.indent_level(false),
+        out,
         six: from.is_full(),
-        into: to.indent_level(false),
-        stacks: noted,
+        into,
+        indentation: noted,
     }
 }
 
@@ -88,22 +97,23 @@ fn starts_level(sheet: &[u8], x: Context, i: usize, newline_after: bool) -> bool
 
 pub fn format_top_level_reserved_word(
     query: &mut [u8],
+    stacks: &mut [u32],
     s: State,
     sheet: &[u8],
     x: Context,
     i: usize,
 ) -> State
-    requires { ⌜ Ready (now sheet) x i s (now query) ⌝ }
-    ensures { λ r. ⌜ Handled (now (sheet .entry)) x i (onSpan formatTopLevelReservedWord) s (now (query .entry)) r (now (query .exit)) ⌝ }
+    requires { ⌜ Ready (now sheet) x i s (now stacks) (now query) ⌝ }
+    ensures { λ r. ⌜ Handled (now (sheet .entry)) x i (onSpan formatTopLevelReservedWord) s (now (stacks .entry)) (now (query .entry)) r (now (stacks .exit)) (now (query .exit)) ⌝ }
 {
     let v = value_of(sheet, x, i);
     let k = case_of(sheet, x, i);
     let inline = s.inline_block;
-    let span = span_info(sheet, x, i, s.block_level, inline.cur_len());
+    let span = span_info(sheet, x, i, s.block_level, inline.cur_len(stacks));
     let before = span.newline_before;
     let after = starts_level(sheet, x, i, span.newline_after);
-    let stacks = s.indentation;
-    let l = levels_around(stacks, before, after, span, i as u16);
+    let indentation = s.indentation;
+    let l = levels_around(stacks, indentation, before, after, span, i as u32);
     let how = TopLevelWord {
         before,
         out: l.out,
@@ -114,27 +124,28 @@ pub fn format_top_level_reserved_word(
     let t = s.text;
     let o = x.options;
     let u = query_reserved::format_top_level_reserved_word(query, t, sheet, v, k, o, how);
-    let noted = l.stacks;
+    let noted = l.indentation;
     s.with_indentation(u, noted)
 }
 
 pub fn format_top_level_reserved_word_no_indent(
     query: &mut [u8],
+    stacks: &mut [u32],
     s: State,
     sheet: &[u8],
     x: Context,
     i: usize,
 ) -> State
-    requires { ⌜ Ready (now sheet) x i s (now query) ⌝ }
-    ensures { λ r. ⌜ Handled (now (sheet .entry)) x i (onSpan formatTopLevelReservedWordNoIndent) s (now (query .entry)) r (now (query .exit)) ⌝ }
+    requires { ⌜ Ready (now sheet) x i s (now stacks) (now query) ⌝ }
+    ensures { λ r. ⌜ Handled (now (sheet .entry)) x i (onSpan formatTopLevelReservedWordNoIndent) s (now (stacks .entry)) (now (query .entry)) r (now (stacks .exit)) (now (query .exit)) ⌝ }
 {
     let v = value_of(sheet, x, i);
     let k = case_of(sheet, x, i);
     let inline = s.inline_block;
-    let span = span_info(sheet, x, i, s.block_level, inline.cur_len());
+    let span = span_info(sheet, x, i, s.block_level, inline.cur_len(stacks));
     let before = span.newline_before;
-    let stacks = s.indentation;
-    let l = levels_around(stacks, before, false, span, i as u16);
+    let indentation = s.indentation;
+    let l = levels_around(stacks, indentation, before, false, span, i as u32);
     let how = TopLevelWord {
         before,
         out: l.out,
@@ -145,7 +156,7 @@ pub fn format_top_level_reserved_word_no_indent(
     let t = s.text;
     let o = x.options;
     let u = query_reserved::format_top_level_reserved_word(query, t, sheet, v, k, o, how);
-    let noted = l.stacks;
+    let noted = l.indentation;
     s.with_indentation(u, noted)
 }
 
@@ -172,24 +183,25 @@ fn newline_before(limit: Limit, last: TopLevel, len: u32) -> bool
 
 pub fn format_newline_after_reserved_word(
     query: &mut [u8],
+    stacks: &mut [u32],
     s: State,
     sheet: &[u8],
     x: Context,
     i: usize,
 ) -> State
-    requires { ⌜ Ready (now sheet) x i s (now query) ⌝ }
-    ensures { λ r. ⌜ Handled (now (sheet .entry)) x i (onSpan formatNewlineAfterReservedWord) s (now (query .entry)) r (now (query .exit)) ⌝ }
+    requires { ⌜ Ready (now sheet) x i s (now stacks) (now query) ⌝ }
+    ensures { λ r. ⌜ Handled (now (sheet .entry)) x i (onSpan formatNewlineAfterReservedWord) s (now (stacks .entry)) (now (query .entry)) r (now (stacks .exit)) (now (query .exit)) ⌝ }
 {
     let v = value_of(sheet, x, i);
     let k = case_of(sheet, x, i);
     let inline = s.inline_block;
-    let span = span_info(sheet, x, i, s.block_level, inline.cur_len());
-    let stacks = s.indentation;
+    let span = span_info(sheet, x, i, s.block_level, inline.cur_len(stacks));
+    let indentation = s.indentation;
     let o = x.options;
     let limit = o.max_inline_top_level;
     let len = value_len(sheet, x.base, i);
-    let before = newline_before(limit, stacks.previous_top_level_reserved(), len);
-    let l = levels_around(stacks, before, true, span, i as u16);
+    let before = newline_before(limit, indentation.previous_top_level_reserved(stacks), len);
+    let l = levels_around(stacks, indentation, before, true, span, i as u32);
     let t = s.text;
     let u = query_reserved::format_newline_after_reserved_word(
         query,
@@ -203,6 +215,6 @@ pub fn format_newline_after_reserved_word(
         l.six,
         l.into,
     );
-    let noted = l.stacks;
+    let noted = l.indentation;
     s.with_indentation(u, noted)
 }

@@ -22,9 +22,16 @@ use text::Text;
 use tokens::to_usize;
 use tokens::token_at;
 
-pub fn format_no_change(query: &mut [u8], s: State, sheet: &[u8], x: Context, i: usize) -> State
-    requires { ⌜ Ready (now sheet) x i s (now query) ⌝ }
-    ensures { λ r. ⌜ Handled (now (sheet .entry)) x i formatNoChange s (now (query .entry)) r (now (query .exit)) ⌝ }
+pub fn format_no_change(
+    query: &mut [u8],
+    stacks: &[u32],
+    s: State,
+    sheet: &[u8],
+    x: Context,
+    i: usize,
+) -> State
+    requires { ⌜ Ready (now sheet) x i s (now stacks) (now query) ⌝ }
+    ensures { λ r. ⌜ Handled (now (sheet .entry)) x i formatNoChange s (now (stacks .entry)) (now (query .entry)) r (now (stacks .entry)) (now (query .exit)) ⌝ }
 {
     let v = value_of(sheet, x, i);
     let t = s.text;
@@ -32,9 +39,16 @@ pub fn format_no_change(query: &mut [u8], s: State, sheet: &[u8], x: Context, i:
     s.with_text(u)
 }
 
-pub fn format_with_spaces(query: &mut [u8], s: State, sheet: &[u8], x: Context, i: usize) -> State
-    requires { ⌜ Ready (now sheet) x i s (now query) ⌝ }
-    ensures { λ r. ⌜ Handled (now (sheet .entry)) x i (onValue formatWithSpaces) s (now (query .entry)) r (now (query .exit)) ⌝ }
+pub fn format_with_spaces(
+    query: &mut [u8],
+    stacks: &[u32],
+    s: State,
+    sheet: &[u8],
+    x: Context,
+    i: usize,
+) -> State
+    requires { ⌜ Ready (now sheet) x i s (now stacks) (now query) ⌝ }
+    ensures { λ r. ⌜ Handled (now (sheet .entry)) x i (onValue formatWithSpaces) s (now (stacks .entry)) (now (query .entry)) r (now (stacks .entry)) (now (query .exit)) ⌝ }
 {
     let v = value_of(sheet, x, i);
     let t = s.text;
@@ -44,13 +58,14 @@ pub fn format_with_spaces(query: &mut [u8], s: State, sheet: &[u8], x: Context, 
 
 pub fn format_with_space_after(
     query: &mut [u8],
+    stacks: &[u32],
     s: State,
     sheet: &[u8],
     x: Context,
     i: usize,
 ) -> State
-    requires { ⌜ Ready (now sheet) x i s (now query) ⌝ }
-    ensures { λ r. ⌜ Handled (now (sheet .entry)) x i (onValue formatWithSpaceAfter) s (now (query .entry)) r (now (query .exit)) ⌝ }
+    requires { ⌜ Ready (now sheet) x i s (now stacks) (now query) ⌝ }
+    ensures { λ r. ⌜ Handled (now (sheet .entry)) x i (onValue formatWithSpaceAfter) s (now (stacks .entry)) (now (query .entry)) r (now (stacks .entry)) (now (query .exit)) ⌝ }
 {
     let v = value_of(sheet, x, i);
     let t = s.text;
@@ -60,13 +75,14 @@ pub fn format_with_space_after(
 
 pub fn format_without_spaces(
     query: &mut [u8],
+    stacks: &[u32],
     s: State,
     sheet: &[u8],
     x: Context,
     i: usize,
 ) -> State
-    requires { ⌜ Ready (now sheet) x i s (now query) ⌝ }
-    ensures { λ r. ⌜ Handled (now (sheet .entry)) x i (onValue formatWithoutSpaces) s (now (query .entry)) r (now (query .exit)) ⌝ }
+    requires { ⌜ Ready (now sheet) x i s (now stacks) (now query) ⌝ }
+    ensures { λ r. ⌜ Handled (now (sheet .entry)) x i (onValue formatWithoutSpaces) s (now (stacks .entry)) (now (query .entry)) r (now (stacks .entry)) (now (query .exit)) ⌝ }
 {
     let v = value_of(sheet, x, i);
     let t = s.text;
@@ -108,30 +124,46 @@ fn span_within(most: u32, last: TopLevel) -> bool
     }
 }
 
-fn comma_breaks(sheet: &[u8], x: Context, active: bool, stacks: Indentation) -> bool
-    requires { ⌜ (Known (now sheet) x) × (Clean stacks) × (Below (x .counts .tokens) (indentationOf stacks)) ⌝ }
-    ensures { λ r. ⌜ r ≡ breaksIn (now (sheet .entry)) x active (indentationOf stacks) ⌝ }
+fn comma_breaks(
+    sheet: &[u8],
+    x: Context,
+    active: bool,
+    stacks: &[u32],
+    indentation: Indentation,
+) -> bool
+    requires { ⌜ (Known (now sheet) x) × (Clean indentation (now stacks)) × (Below (x .counts .tokens) (indentationOf indentation (now stacks))) ⌝ }
+    ensures { λ r. ⌜ r ≡ breaksIn (now (sheet .entry)) x active (indentationOf indentation (now (stacks .entry))) ⌝ }
 {
     if active {
         return false;
     }
-    if is_limit(sheet, x, stacks.previous_reserved()) {
+    if is_limit(sheet, x, indentation.previous_reserved(stacks)) {
         return false;
     }
     let o = x.options;
     let limit = o.max_inline_arguments;
-    !span_within(or_zero(limit), stacks.previous_top_level_reserved())
+    !span_within(
+        or_zero(limit),
+        indentation.previous_top_level_reserved(stacks),
+    )
 }
 
-pub fn format_comma(query: &mut [u8], s: State, sheet: &[u8], x: Context, i: usize) -> State
-    requires { ⌜ Ready (now sheet) x i s (now query) ⌝ }
-    ensures { λ r. ⌜ Handled (now (sheet .entry)) x i (onValue formatComma) s (now (query .entry)) r (now (query .exit)) ⌝ }
+pub fn format_comma(
+    query: &mut [u8],
+    stacks: &[u32],
+    s: State,
+    sheet: &[u8],
+    x: Context,
+    i: usize,
+) -> State
+    requires { ⌜ Ready (now sheet) x i s (now stacks) (now query) ⌝ }
+    ensures { λ r. ⌜ Handled (now (sheet .entry)) x i (onValue formatComma) s (now (stacks .entry)) (now (query .entry)) r (now (stacks .entry)) (now (query .exit)) ⌝ }
 {
     let v = value_of(sheet, x, i);
     let inline = s.inline_block;
-    let stacks = s.indentation;
-    let breaks = comma_breaks(sheet, x, inline.is_active(), stacks);
-    let level = stacks.indent_level(false);
+    let indentation = s.indentation;
+    let breaks = comma_breaks(sheet, x, inline.is_active(), stacks, indentation);
+    let level = indentation.indent_level(stacks, false);
     let t = s.text;
     let o = x.options;
     let u = query::format_comma(query, t, sheet, v, o, breaks, level);
@@ -143,20 +175,21 @@ pub fn format_comma(query: &mut [u8], s: State, sheet: &[u8], x: Context, i: usi
 // The next query starts with no indent and no previous word.
 pub fn format_query_separator(
     query: &mut [u8],
+    stacks: &mut [u32],
     s: State,
     sheet: &[u8],
     x: Context,
     i: usize,
 ) -> State
-    requires { ⌜ Ready (now sheet) x i s (now query) ⌝ }
-    ensures { λ r. ⌜ Handled (now (sheet .entry)) x i (onValue formatQuerySeparator) s (now (query .entry)) r (now (query .exit)) ⌝ }
+    requires { ⌜ Ready (now sheet) x i s (now stacks) (now query) ⌝ }
+    ensures { λ r. ⌜ Handled (now (sheet .entry)) x i (onValue formatQuerySeparator) s (now (stacks .entry)) (now (query .entry)) r (now (stacks .exit)) (now (query .exit)) ⌝ }
 {
     let v = value_of(sheet, x, i);
-    let stacks = s.indentation;
+    let indentation = s.indentation;
     let t = s.text;
     let o = x.options;
     let u = query::format_query_separator(query, t, sheet, v, o.lines_between_queries);
-    s.with_indentation(u, stacks.reset_indentation())
+    s.with_indentation(u, indentation.reset_indentation(stacks))
 }
 
 // ---- a placeholder
@@ -180,9 +213,16 @@ fn with_index(mut s: State, t: Text, index: u32) -> State
     s
 }
 
-pub fn format_placeholder(query: &mut [u8], s: State, sheet: &[u8], x: Context, i: usize) -> State
-    requires { ⌜ Ready (now sheet) x i s (now query) ⌝ }
-    ensures { λ r. ⌜ Handled (now (sheet .entry)) x i (onToken formatPlaceholder) s (now (query .entry)) r (now (query .exit)) ⌝ }
+pub fn format_placeholder(
+    query: &mut [u8],
+    stacks: &[u32],
+    s: State,
+    sheet: &[u8],
+    x: Context,
+    i: usize,
+) -> State
+    requires { ⌜ Ready (now sheet) x i s (now stacks) (now query) ⌝ }
+    ensures { λ r. ⌜ Handled (now (sheet .entry)) x i (onToken formatPlaceholder) s (now (stacks .entry)) (now (query .entry)) r (now (stacks .entry)) (now (query .exit)) ⌝ }
 {
     let token = token_at(sheet, i);
     let c = x.counts;
@@ -198,21 +238,28 @@ pub fn format_placeholder(query: &mut [u8], s: State, sheet: &[u8], x: Context, 
 // ---- by the value
 
 // Strings, operators, numbers, words and joins: a sign is told by its value, whatever its kind.
-pub fn format_by_value(query: &mut [u8], s: State, sheet: &[u8], x: Context, i: usize) -> State
-    requires { ⌜ Ready (now sheet) x i s (now query) ⌝ }
-    ensures { λ r. ⌜ Handled (now (sheet .entry)) x i (onValue formatByValue) s (now (query .entry)) r (now (query .exit)) ⌝ }
+pub fn format_by_value(
+    query: &mut [u8],
+    stacks: &mut [u32],
+    s: State,
+    sheet: &[u8],
+    x: Context,
+    i: usize,
+) -> State
+    requires { ⌜ Ready (now sheet) x i s (now stacks) (now query) ⌝ }
+    ensures { λ r. ⌜ Handled (now (sheet .entry)) x i (onValue formatByValue) s (now (stacks .entry)) (now (query .entry)) r (now (stacks .exit)) (now (query .exit)) ⌝ }
 {
     if is_byte(sheet, x.base, i, b',') {
-        return format_comma(query, s, sheet, x, i);
+        return format_comma(query, stacks, s, sheet, x, i);
     }
     if is_byte(sheet, x.base, i, b':') {
-        return format_with_space_after(query, s, sheet, x, i);
+        return format_with_space_after(query, stacks, s, sheet, x, i);
     }
     if is_byte(sheet, x.base, i, b'.') {
-        return format_without_spaces(query, s, sheet, x, i);
+        return format_without_spaces(query, stacks, s, sheet, x, i);
     }
     if is_byte(sheet, x.base, i, b';') {
-        return format_query_separator(query, s, sheet, x, i);
+        return format_query_separator(query, stacks, s, sheet, x, i);
     }
-    format_with_spaces(query, s, sheet, x, i)
+    format_with_spaces(query, stacks, s, sheet, x, i)
 }

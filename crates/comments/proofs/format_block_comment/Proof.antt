@@ -1,9 +1,15 @@
-use denote.Ref.{now}
-use Rattle.state.proofs.Laws.{value-inside}
-use Rattle.comments.proofs.Laws.{by-block-comment}
 use borrow.Author.Needs.{needs}
 use Rattle.comments.proofs.format_block_comment.Statement.{statement}
 use Rattle.comments.proofs.format_block_comment.Tie as tie
+use Rattle.comments.proofs.format_block_comment.Reads as reads
+use Rattle.comments.proofs.format_block_comment.Lts as lts
+use Rattle.indentation.proofs.Indentation.indent_level.Reads as indent-level-reads
+use Rattle.query.proofs.format_block_comment.Reads as format-block-comment-reads
+use Rattle.state.proofs.State.with_text.Reads as with-text-reads
+use Rattle.state.proofs.value_of.Reads as value-of-reads
+use denote.Ref.{now}
+use Rattle.state.proofs.Laws.{value-inside}
+use Rattle.comments.proofs.Laws.{by-block-comment}
 
 value-of-requires : tie.Need-value-of-requires
 value-of-requires c κs = search needs
@@ -22,8 +28,8 @@ same-length c = search needs
 
 returns : tie.Need-returns
 returns c =
-    let start = c .before .before .before .before .before .before .before .before .before .before .before .before in
-    by-block-comment (now (start .args .sheet)) (start .args .x) (start .args .i) (start .args .s) _ (start .pre) _ (c .before .before .before .before .before .before .before .before .before .value-of .ensures) _ _ _ _ (c .before .before .before .before .before .before .before .indent-level .ensures .0)
+    let start = c .before .before .before .before .before .before .before .before .before .before .before .before .before in
+    by-block-comment (now (start .args .sheet)) (start .args .x) (start .args .i) (start .args .s) (now (start .args .stacks)) _ (start .pre) _ (c .before .before .before .before .before .before .before .before .before .value-of .ensures) _ _ _ _ (c .before .before .before .before .before .before .before .indent-level .ensures .0)
     (c .before .before .before .format-block-comment .ensures) (c .with-text .ensures)
 
 pub format-block-comment-spec : {M : Type 1} → statement M

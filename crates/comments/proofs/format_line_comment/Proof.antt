@@ -1,10 +1,18 @@
+use borrow.Author.Needs.{needs}
+use Rattle.comments.proofs.format_line_comment.Statement.{statement}
+use Rattle.comments.proofs.format_line_comment.Tie as tie
+use Rattle.comments.proofs.format_line_comment.Reads as reads
+use Rattle.comments.proofs.format_line_comment.Lts as lts
+use Rattle.around.proofs.two_after_comma.Reads as two-after-comma-reads
+use Rattle.comments.proofs.breaks_before_comment.Reads as breaks-before-comment-reads
+use Rattle.indentation.proofs.Indentation.indent_level.Reads as indent-level-reads
+use Rattle.query.proofs.format_line_comment.Reads as format-line-comment-reads
+use Rattle.state.proofs.State.with_text.Reads as with-text-reads
+use Rattle.state.proofs.value_of.Reads as value-of-reads
 use denote.Ref.{now}
 use Rattle.state.proofs.Laws.{value-inside}
 use Rattle.state.proofs.Laws.{known-readable}
 use Rattle.comments.proofs.Laws.{by-line-comment}
-use borrow.Author.Needs.{needs}
-use Rattle.comments.proofs.format_line_comment.Statement.{statement}
-use Rattle.comments.proofs.format_line_comment.Tie as tie
 
 value-of-requires : tie.Need-value-of-requires
 value-of-requires c κs = search needs
@@ -29,8 +37,8 @@ same-length c = search needs
 
 returns : tie.Need-returns
 returns c =
-    let start = c .before .before .before .before .before .before .before .before .before .before .before .before .before .before .before in
-    by-line-comment (now (start .args .sheet)) (start .args .x) (start .args .i) (start .args .s) _ (start .pre) _ (c .before .before .before .before .before .before .before .before .before .before .before .before .value-of .ensures) _ _ _ _ (c .before .before .before .before .before .before .before .indent-level .ensures .0) _ _
+    let start = c .before .before .before .before .before .before .before .before .before .before .before .before .before .before .before .before in
+    by-line-comment (now (start .args .sheet)) (start .args .x) (start .args .i) (start .args .s) (now (start .args .stacks)) _ (start .pre) _ (c .before .before .before .before .before .before .before .before .before .before .before .before .value-of .ensures) _ _ _ _ (c .before .before .before .before .before .before .before .indent-level .ensures .0) _ _
     (c .before .before .before .before .before .before .before .before .before .before .before .breaks-before-comment .ensures) (c .before .before .before .before .before .before .before .before .before .two-after-comma .ensures) (c .before .before .before .format-line-comment .ensures) (c .with-text .ensures)
 
 pub format-line-comment-spec : {M : Type 1} → statement M

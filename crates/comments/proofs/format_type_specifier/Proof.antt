@@ -1,10 +1,16 @@
+use borrow.Author.Needs.{needs}
+use Rattle.comments.proofs.format_type_specifier.Statement.{statement}
+use Rattle.comments.proofs.format_type_specifier.Tie as tie
+use Rattle.comments.proofs.format_type_specifier.Reads as reads
+use Rattle.comments.proofs.format_type_specifier.Lts as lts
+use Rattle.around.proofs.before_reserved_word.Reads as before-reserved-word-reads
+use Rattle.query.proofs.format_type_specifier.Reads as format-type-specifier-reads
+use Rattle.state.proofs.State.with_text.Reads as with-text-reads
+use Rattle.state.proofs.value_of.Reads as value-of-reads
 use denote.Ref.{now}
 use Rattle.state.proofs.Laws.{value-inside}
 use Rattle.state.proofs.Laws.{known-readable}
 use Rattle.comments.proofs.Laws.{by-type-specifier}
-use borrow.Author.Needs.{needs}
-use Rattle.comments.proofs.format_type_specifier.Statement.{statement}
-use Rattle.comments.proofs.format_type_specifier.Tie as tie
 
 value-of-requires : tie.Need-value-of-requires
 value-of-requires c κs = search needs
@@ -23,8 +29,8 @@ same-length c = search needs
 
 returns : tie.Need-returns
 returns c =
-    let start = c .before .before .before .before .before .before .before .before .before .before .before in
-    by-type-specifier (now (start .args .sheet)) (start .args .x) (start .args .i) (start .args .s) _ (start .pre) _ (c .before .before .before .before .before .before .before .before .value-of .ensures) _ _ _ _ (c .before .before .before .before .before .before .before-reserved-word .ensures)
+    let start = c .before .before .before .before .before .before .before .before .before .before .before .before in
+    by-type-specifier (now (start .args .sheet)) (start .args .x) (start .args .i) (start .args .s) (now (start .args .stacks)) _ (start .pre) _ (c .before .before .before .before .before .before .before .before .value-of .ensures) _ _ _ _ (c .before .before .before .before .before .before .before-reserved-word .ensures)
     (c .before .before .before .format-type-specifier .ensures) (c .with-text .ensures)
 
 pub format-type-specifier-spec : {M : Type 1} → statement M

@@ -1,7 +1,21 @@
-use Rattle.formatter.proofs.Arms.{by-white, by-line-comment, by-block-comment, by-top-level, by-no-indent, by-newline-after, by-newline, by-reserved, by-opening, by-closing, by-placeholder, by-type-specifier, by-string, by-operator, by-number, by-word, by-join}
 use borrow.Author.Needs.{needs}
 use Rattle.formatter.proofs.format_token.Statement.{statement}
 use Rattle.formatter.proofs.format_token.Tie as tie
+use Rattle.formatter.proofs.format_token.Reads as reads
+use Rattle.formatter.proofs.format_token.Lts as lts
+use Rattle.brackets.proofs.format_closing_parentheses.Reads as format-closing-parentheses-reads
+use Rattle.brackets.proofs.format_opening_parentheses.Reads as format-opening-parentheses-reads
+use Rattle.comments.proofs.format_block_comment.Reads as format-block-comment-reads
+use Rattle.comments.proofs.format_line_comment.Reads as format-line-comment-reads
+use Rattle.comments.proofs.format_type_specifier.Reads as format-type-specifier-reads
+use Rattle.reserved.proofs.format_newline_reserved_word.Reads as format-newline-reserved-word-reads
+use Rattle.reserved.proofs.format_reserved.Reads as format-reserved-reads
+use Rattle.top_level.proofs.format_newline_after_reserved_word.Reads as format-newline-after-reserved-word-reads
+use Rattle.top_level.proofs.format_top_level_reserved_word.Reads as format-top-level-reserved-word-reads
+use Rattle.top_level.proofs.format_top_level_reserved_word_no_indent.Reads as format-top-level-reserved-word-no-indent-reads
+use Rattle.values.proofs.format_by_value.Reads as format-by-value-reads
+use Rattle.values.proofs.format_placeholder.Reads as format-placeholder-reads
+use Rattle.formatter.proofs.Arms.{by-white, by-line-comment, by-block-comment, by-top-level, by-no-indent, by-newline-after, by-newline, by-reserved, by-opening, by-closing, by-placeholder, by-type-specifier, by-string, by-operator, by-number, by-word, by-join}
 
 enum-told : tie.Need-enum-told
 enum-told c = search needs
@@ -109,95 +123,159 @@ returns c = search (needs, by-white)
 same-length : tie.Need-same-length
 same-length c = search needs
 
-returns-2 : tie.Need-returns-2
-returns-2 c = search (needs, by-line-comment)
-
 same-length-2 : tie.Need-same-length-2
 same-length-2 c = search needs
 
-returns-3 : tie.Need-returns-3
-returns-3 c = search (needs, by-block-comment)
+returns-2 : tie.Need-returns-2
+returns-2 c = search (needs, by-line-comment)
 
 same-length-3 : tie.Need-same-length-3
 same-length-3 c = search needs
 
-returns-4 : tie.Need-returns-4
-returns-4 c = search (needs, by-top-level)
-
 same-length-4 : tie.Need-same-length-4
 same-length-4 c = search needs
 
-returns-5 : tie.Need-returns-5
-returns-5 c = search (needs, by-no-indent)
+returns-3 : tie.Need-returns-3
+returns-3 c = search (needs, by-block-comment)
 
 same-length-5 : tie.Need-same-length-5
 same-length-5 c = search needs
 
-returns-6 : tie.Need-returns-6
-returns-6 c = search (needs, by-newline-after)
-
 same-length-6 : tie.Need-same-length-6
 same-length-6 c = search needs
 
-returns-7 : tie.Need-returns-7
-returns-7 c = search (needs, by-newline)
+returns-4 : tie.Need-returns-4
+returns-4 c = search (needs, by-top-level)
 
 same-length-7 : tie.Need-same-length-7
 same-length-7 c = search needs
 
-returns-8 : tie.Need-returns-8
-returns-8 c = search (needs, by-reserved)
-
 same-length-8 : tie.Need-same-length-8
 same-length-8 c = search needs
 
-returns-9 : tie.Need-returns-9
-returns-9 c = search (needs, by-opening)
+returns-5 : tie.Need-returns-5
+returns-5 c = search (needs, by-no-indent)
 
 same-length-9 : tie.Need-same-length-9
 same-length-9 c = search needs
 
-returns-10 : tie.Need-returns-10
-returns-10 c = search (needs, by-closing)
-
 same-length-10 : tie.Need-same-length-10
 same-length-10 c = search needs
 
-returns-11 : tie.Need-returns-11
-returns-11 c = search (needs, by-placeholder)
+returns-6 : tie.Need-returns-6
+returns-6 c = search (needs, by-newline-after)
 
 same-length-11 : tie.Need-same-length-11
 same-length-11 c = search needs
 
-returns-12 : tie.Need-returns-12
-returns-12 c = search (needs, by-type-specifier)
-
 same-length-12 : tie.Need-same-length-12
 same-length-12 c = search needs
 
-returns-13 : tie.Need-returns-13
-returns-13 c = search (needs, by-string)
+returns-7 : tie.Need-returns-7
+returns-7 c = search (needs, by-newline)
 
 same-length-13 : tie.Need-same-length-13
 same-length-13 c = search needs
 
-returns-14 : tie.Need-returns-14
-returns-14 c = search (needs, by-operator)
-
 same-length-14 : tie.Need-same-length-14
 same-length-14 c = search needs
 
-returns-15 : tie.Need-returns-15
-returns-15 c = search (needs, by-number)
+returns-8 : tie.Need-returns-8
+returns-8 c = search (needs, by-reserved)
 
 same-length-15 : tie.Need-same-length-15
 same-length-15 c = search needs
 
+same-length-16 : tie.Need-same-length-16
+same-length-16 c = search needs
+
+returns-9 : tie.Need-returns-9
+returns-9 c = search (needs, by-opening)
+
+-- src/lib.rt:28:1
+same-length-17 : tie.Need-same-length-17
+same-length-17 c = search needs
+
+-- src/lib.rt:28:1
+same-length-18 : tie.Need-same-length-18
+same-length-18 c = search needs
+
+returns-10 : tie.Need-returns-10
+returns-10 c = search (needs, by-closing)
+
+-- src/lib.rt:28:1
+same-length-19 : tie.Need-same-length-19
+same-length-19 c = search needs
+
+-- src/lib.rt:28:1
+same-length-20 : tie.Need-same-length-20
+same-length-20 c = search needs
+
+returns-11 : tie.Need-returns-11
+returns-11 c = search (needs, by-placeholder)
+
+-- src/lib.rt:28:1
+same-length-21 : tie.Need-same-length-21
+same-length-21 c = search needs
+
+-- src/lib.rt:28:1
+same-length-22 : tie.Need-same-length-22
+same-length-22 c = search needs
+
+returns-12 : tie.Need-returns-12
+returns-12 c = search (needs, by-type-specifier)
+
+-- src/lib.rt:28:1
+same-length-23 : tie.Need-same-length-23
+same-length-23 c = search needs
+
+-- src/lib.rt:28:1
+same-length-24 : tie.Need-same-length-24
+same-length-24 c = search needs
+
+returns-13 : tie.Need-returns-13
+returns-13 c = search (needs, by-string)
+
+-- src/lib.rt:28:1
+same-length-25 : tie.Need-same-length-25
+same-length-25 c = search needs
+
+-- src/lib.rt:28:1
+same-length-26 : tie.Need-same-length-26
+same-length-26 c = search needs
+
+returns-14 : tie.Need-returns-14
+returns-14 c = search (needs, by-operator)
+
+-- src/lib.rt:28:1
+same-length-27 : tie.Need-same-length-27
+same-length-27 c = search needs
+
+-- src/lib.rt:28:1
+same-length-28 : tie.Need-same-length-28
+same-length-28 c = search needs
+
+returns-15 : tie.Need-returns-15
+returns-15 c = search (needs, by-number)
+
+-- src/lib.rt:28:1
+same-length-29 : tie.Need-same-length-29
+same-length-29 c = search needs
+
+-- src/lib.rt:28:1
+same-length-30 : tie.Need-same-length-30
+same-length-30 c = search needs
+
 returns-16 : tie.Need-returns-16
 returns-16 c = search (needs, by-word)
 
-same-length-16 : tie.Need-same-length-16
-same-length-16 c = search needs
+-- src/lib.rt:28:1
+same-length-31 : tie.Need-same-length-31
+same-length-31 c = search needs
+
+-- src/lib.rt:28:1
+same-length-32 : tie.Need-same-length-32
+same-length-32 c = search needs
 
 returns-17 : tie.Need-returns-17
 returns-17 c = search (needs, by-join)
@@ -241,34 +319,50 @@ format-token-spec =
     format-by-value-requires-5
     returns
     same-length
-    returns-2
     same-length-2
-    returns-3
+    returns-2
     same-length-3
-    returns-4
     same-length-4
-    returns-5
+    returns-3
     same-length-5
-    returns-6
     same-length-6
-    returns-7
+    returns-4
     same-length-7
-    returns-8
     same-length-8
-    returns-9
+    returns-5
     same-length-9
-    returns-10
     same-length-10
-    returns-11
+    returns-6
     same-length-11
-    returns-12
     same-length-12
-    returns-13
+    returns-7
     same-length-13
-    returns-14
     same-length-14
-    returns-15
+    returns-8
     same-length-15
-    returns-16
     same-length-16
+    returns-9
+    same-length-17
+    same-length-18
+    returns-10
+    same-length-19
+    same-length-20
+    returns-11
+    same-length-21
+    same-length-22
+    returns-12
+    same-length-23
+    same-length-24
+    returns-13
+    same-length-25
+    same-length-26
+    returns-14
+    same-length-27
+    same-length-28
+    returns-15
+    same-length-29
+    same-length-30
+    returns-16
+    same-length-31
+    same-length-32
     returns-17)

@@ -1,9 +1,16 @@
-use denote.Ref.{now}
-use Rattle.state.proofs.Laws.{value-inside}
-use Rattle.reserved.proofs.Laws.{by-reserved}
 use borrow.Author.Needs.{needs}
 use Rattle.reserved.proofs.format_reserved.Statement.{statement}
 use Rattle.reserved.proofs.format_reserved.Tie as tie
+use Rattle.reserved.proofs.format_reserved.Reads as reads
+use Rattle.reserved.proofs.format_reserved.Lts as lts
+use Rattle.indentation.proofs.Indentation.set_previous_reserved.Reads as set-previous-reserved-reads
+use Rattle.query_reserved.proofs.format_reserved.Reads as format-reserved-reads
+use Rattle.reserved.proofs.case_of.Reads as case-of-reads
+use Rattle.state.proofs.State.with_indentation.Reads as with-indentation-reads
+use Rattle.state.proofs.value_of.Reads as value-of-reads
+use denote.Ref.{now}
+use Rattle.state.proofs.Laws.{value-inside}
+use Rattle.reserved.proofs.Laws.{by-reserved}
 
 value-of-requires : tie.Need-value-of-requires
 value-of-requires c κs = search needs
@@ -26,11 +33,15 @@ with-indentation-requires c κs = search needs
 same-length : tie.Need-same-length
 same-length c = search needs
 
+-- src/lib.rt:170:1
+same-length-2 : tie.Need-same-length-2
+same-length-2 c = search needs
+
 returns : tie.Need-returns
 returns c =
-    let start = c .before .before .before .before .before .before .before .before .before .before .before .before in
-    by-reserved (now (start .args .sheet)) (start .args .x) (start .args .i) (start .args .s) _ (start .pre) _ (c .before .before .before .before .before .before .before .before .before .value-of .ensures) _
-    (c .before .before .before .before .before .before .before .before .case-of .ensures) _ _ _ _ (c .before .before .before .before .before .before .set-previous-reserved .ensures) (c .before .before .before .format-reserved .ensures) (c .with-indentation .ensures)
+    let start = c .before .before .before .before .before .before .before .before .before .before .before .before .before .before .before .before in
+    by-reserved (now (start .args .sheet)) (start .args .x) (start .args .i) (start .args .s) (now (start .args .stacks)) _ (start .pre) _ (c .before .before .before .before .before .before .before .before .before .before .before .before .value-of .ensures) _
+    (c .before .before .before .before .before .before .before .before .before .before .before .case-of .ensures) _ _ _ _ _ (c .before .before .before .before .before .before .before .before .set-previous-reserved .ensures) (c .before .before .before .format-reserved .ensures) (c .with-indentation .ensures)
 
 pub format-reserved-spec : {M : Type 1} → statement M
 format-reserved-spec =
@@ -43,4 +54,5 @@ format-reserved-spec =
     format-reserved-requires
     with-indentation-requires
     same-length
+    same-length-2
     returns)

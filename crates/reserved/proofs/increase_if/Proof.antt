@@ -1,10 +1,17 @@
-use Rattle.reserved.proofs.Laws.{stands-then, stands-else}
 use borrow.Author.Needs.{needs}
 use Rattle.reserved.proofs.increase_if.Statement.{statement}
 use Rattle.reserved.proofs.increase_if.Tie as tie
+use Rattle.reserved.proofs.increase_if.Reads as reads
+use Rattle.reserved.proofs.increase_if.Lts as lts
+use Rattle.indentation.proofs.Indentation.increase_top_level.Reads as increase-top-level-reads
+use Rattle.reserved.proofs.Laws.{stands-then, stands-else}
 
 increase-top-level-requires : tie.Need-increase-top-level-requires
 increase-top-level-requires c κs = search needs
+
+-- src/lib.rt:52:9
+same-length : tie.Need-same-length
+same-length c = search needs
 
 returns : tie.Need-returns
 returns c = search (needs, stands-then)
@@ -13,4 +20,4 @@ returns-2 : tie.Need-returns-2
 returns-2 c = search (needs, stands-else)
 
 pub increase-if-spec : {M : Type 1} → statement M
-increase-if-spec = tie.close (tie.spec increase-top-level-requires returns returns-2)
+increase-if-spec = tie.close (tie.spec increase-top-level-requires same-length returns returns-2)

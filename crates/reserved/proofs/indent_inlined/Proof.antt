@@ -1,7 +1,10 @@
-use Rattle.reserved.proofs.Laws.{stands-else, inlined-none, inlined-span}
 use borrow.Author.Needs.{needs}
 use Rattle.reserved.proofs.indent_inlined.Statement.{statement}
 use Rattle.reserved.proofs.indent_inlined.Tie as tie
+use Rattle.reserved.proofs.indent_inlined.Reads as reads
+use Rattle.reserved.proofs.indent_inlined.Lts as lts
+use Rattle.reserved.proofs.increase_if.Reads as increase-if-reads
+use Rattle.reserved.proofs.Laws.{stands-else, inlined-none, inlined-span}
 
 enum-told : tie.Need-enum-told
 enum-told c = search needs
@@ -13,14 +16,26 @@ increase-if-requires : tie.Need-increase-if-requires
 increase-if-requires c κs = search needs
 
 returns : tie.Need-returns
-returns c = inlined-none _ _ _ (c .before .before .if1 .taken) (c .enum-told .given .1) (search needs)
+returns c = inlined-none _ _ _ _ (c .before .before .if1 .taken) (c .enum-told .given .1) (search needs)
+
+-- src/lib.rt:91:9
+same-length : tie.Need-same-length
+same-length c = search needs
 
 returns-2 : tie.Need-returns-2
-returns-2 c = inlined-span _ _ _ (c .before .before .before .before .before .if1 .taken) _ _ (c .before .before .before .last .given .1) (c .increase-if .ensures)
+returns-2 c = inlined-span _ _ _ _ (c .before .before .before .before .before .before .before .before .if1 .taken) _ _ _ (c .before .before .before .before .before .before .last .given .1) (c .before .before .increase-if .ensures)
 
 returns-3 : tie.Need-returns-3
 returns-3 c = search (needs, stands-else)
 
 pub indent-inlined-spec : {M : Type 1} → statement M
 indent-inlined-spec =
-    tie.close (tie.spec enum-told enum-known-last increase-if-requires returns returns-2 returns-3)
+    tie.close
+    (tie.spec
+    enum-told
+    enum-known-last
+    increase-if-requires
+    returns
+    same-length
+    returns-2
+    returns-3)

@@ -1,13 +1,24 @@
-use Rattle.reserved.proofs.Laws.{by-indented}
 use borrow.Author.Needs.{needs}
 use Rattle.reserved.proofs.newline_level.Statement.{statement}
 use Rattle.reserved.proofs.newline_level.Tie as tie
+use Rattle.reserved.proofs.newline_level.Reads as reads
+use Rattle.reserved.proofs.newline_level.Lts as lts
+use Rattle.indentation.proofs.Indentation.indent_level.Reads as indent-level-reads
+use Rattle.indentation.proofs.Indentation.is_full.Reads as is-full-reads
+use Rattle.indentation.proofs.Indentation.previous_top_level_reserved.Reads as previous-top-level-reserved-reads
+use Rattle.indentation.proofs.Indentation.set_previous_reserved.Reads as set-previous-reserved-reads
+use Rattle.reserved.proofs.indent_inlined.Reads as indent-inlined-reads
+use Rattle.reserved.proofs.six_inlined.Reads as six-inlined-reads
+use Rattle.reserved.proofs.Laws.{by-indented}
 
 previous-top-level-reserved-requires : tie.Need-previous-top-level-reserved-requires
 previous-top-level-reserved-requires c κs = search needs
 
 indent-inlined-requires : tie.Need-indent-inlined-requires
 indent-inlined-requires c κs = search needs
+
+indent-level-requires : tie.Need-indent-level-requires
+indent-level-requires c κs = search needs
 
 set-previous-reserved-requires : tie.Need-set-previous-reserved-requires
 set-previous-reserved-requires c κs = search needs
@@ -18,12 +29,13 @@ is-full-requires c κs = search needs
 six-inlined-requires : tie.Need-six-inlined-requires
 six-inlined-requires c κs = search needs
 
-indent-level-requires : tie.Need-indent-level-requires
-indent-level-requires c κs = search needs
+-- src/lib.rt:114:1
+same-length : tie.Need-same-length
+same-length c = search needs
 
 returns : tie.Need-returns
 returns c =
-    by-indented _ _ _ _ _ _ _ _ _ (c .before .before .before .before .before .previous-top-level-reserved .ensures) (c .before .before .before .before .indent-inlined .ensures) (c .before .before .before .set-previous-reserved .ensures) (c .before .before .is-full .ensures) (c .before .six-inlined .ensures) (c .indent-level .ensures)
+    by-indented _ _ _ _ _ _ _ _ _ _ _ _ (c .before .before .before .before .before .before .before .before .before .before .before .before .before .before .before .pre .0) (c .before .before .before .before .before .before .before .before .before .before .before .before .previous-top-level-reserved .ensures) (c .before .before .before .before .before .before .before .before .before .before .indent-inlined .ensures) (c .before .before .before .before .set-previous-reserved .ensures) (c .before .is-full .ensures) (c .six-inlined .ensures) (c .before .before .before .before .before .before .indent-level .ensures)
 
 pub newline-level-spec : {M : Type 1} → statement M
 newline-level-spec =
@@ -31,8 +43,9 @@ newline-level-spec =
     (tie.spec
     previous-top-level-reserved-requires
     indent-inlined-requires
+    indent-level-requires
     set-previous-reserved-requires
     is-full-requires
     six-inlined-requires
-    indent-level-requires
+    same-length
     returns)

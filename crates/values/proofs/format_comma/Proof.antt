@@ -1,10 +1,18 @@
+use borrow.Author.Needs.{needs}
+use Rattle.values.proofs.format_comma.Statement.{statement}
+use Rattle.values.proofs.format_comma.Tie as tie
+use Rattle.values.proofs.format_comma.Reads as reads
+use Rattle.values.proofs.format_comma.Lts as lts
+use Rattle.indentation.proofs.Indentation.indent_level.Reads as indent-level-reads
+use Rattle.inline_block.proofs.InlineBlock.is_active.Reads as is-active-reads
+use Rattle.query.proofs.format_comma.Reads as format-comma-reads
+use Rattle.state.proofs.State.with_text.Reads as with-text-reads
+use Rattle.state.proofs.value_of.Reads as value-of-reads
+use Rattle.values.proofs.comma_breaks.Reads as comma-breaks-reads
 use denote.Ref.{now}
 use Rattle.state.proofs.Laws.{value-inside}
 use Rattle.state.specs.Below.{below-all}
 use Rattle.values.proofs.Laws.{by-comma}
-use borrow.Author.Needs.{needs}
-use Rattle.values.proofs.format_comma.Statement.{statement}
-use Rattle.values.proofs.format_comma.Tie as tie
 
 value-of-requires : tie.Need-value-of-requires
 value-of-requires c κs = search needs
@@ -29,8 +37,8 @@ same-length c = search needs
 
 returns : tie.Need-returns
 returns c =
-    let start = c .before .before .before .before .before .before .before .before .before .before .before .before .before .before .before in
-    by-comma (now (start .args .sheet)) (start .args .x) (start .args .i) (start .args .s) _ (start .pre) _ (c .before .before .before .before .before .before .before .before .before .before .before .before .value-of .ensures) _ _ _ _ _ _
+    let start = c .before .before .before .before .before .before .before .before .before .before .before .before .before .before .before .before in
+    by-comma (now (start .args .sheet)) (start .args .x) (start .args .i) (start .args .s) (now (start .args .stacks)) _ (start .pre) _ (c .before .before .before .before .before .before .before .before .before .before .before .before .value-of .ensures) _ _ _ _ _ _
     (c .before .before .before .before .before .before .before .before .before .is-active .ensures) (c .before .before .before .before .before .before .before .before .comma-breaks .ensures) (c .before .before .before .before .before .before .before .indent-level .ensures .0) (c .before .before .before .format-comma .ensures) (c .with-text .ensures)
 
 pub format-comma-spec : {M : Type 1} → statement M

@@ -1,9 +1,15 @@
-use denote.Ref.{now}
-use Rattle.state.proofs.Laws.{value-inside}
-use Rattle.values.proofs.Laws.{by-separator}
 use borrow.Author.Needs.{needs}
 use Rattle.values.proofs.format_query_separator.Statement.{statement}
 use Rattle.values.proofs.format_query_separator.Tie as tie
+use Rattle.values.proofs.format_query_separator.Reads as reads
+use Rattle.values.proofs.format_query_separator.Lts as lts
+use Rattle.indentation.proofs.Indentation.reset_indentation.Reads as reset-indentation-reads
+use Rattle.query.proofs.format_query_separator.Reads as format-query-separator-reads
+use Rattle.state.proofs.State.with_indentation.Reads as with-indentation-reads
+use Rattle.state.proofs.value_of.Reads as value-of-reads
+use denote.Ref.{now}
+use Rattle.state.proofs.Laws.{value-inside}
+use Rattle.values.proofs.Laws.{by-separator}
 
 value-of-requires : tie.Need-value-of-requires
 value-of-requires c κs = search needs
@@ -20,11 +26,15 @@ with-indentation-requires c κs = search needs
 same-length : tie.Need-same-length
 same-length c = search needs
 
+-- src/lib.rt:176:1
+same-length-2 : tie.Need-same-length-2
+same-length-2 c = search needs
+
 returns : tie.Need-returns
 returns c =
-    let start = c .before .before .before .before .before .before .before .before .before .before .before .before in
-    by-separator (now (start .args .sheet)) (start .args .x) (start .args .i) (start .args .s) _ (start .pre) _ (c .before .before .before .before .before .before .before .before .before .value-of .ensures) _ _ _ _
-    (c .before .before .before .before .format-query-separator .ensures) (c .before .reset-indentation .ensures) (c .with-indentation .ensures)
+    let start = c .before .before .before .before .before .before .before .before .before .before .before .before .before .before .before .before in
+    by-separator (now (start .args .sheet)) (start .args .x) (start .args .i) (start .args .s) (now (start .args .stacks)) _ (start .pre) _ (c .before .before .before .before .before .before .before .before .before .before .before .before .value-of .ensures) _ _ _ _ _
+    (c .before .before .before .before .before .before .before .format-query-separator .ensures) (c .before .before .before .reset-indentation .ensures) (c .with-indentation .ensures)
 
 pub format-query-separator-spec : {M : Type 1} → statement M
 format-query-separator-spec =
@@ -35,4 +45,5 @@ format-query-separator-spec =
     reset-indentation-requires
     with-indentation-requires
     same-length
+    same-length-2
     returns)

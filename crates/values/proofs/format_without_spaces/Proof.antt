@@ -1,8 +1,13 @@
-use Rattle.state.proofs.Laws.{value-inside}
-use Rattle.values.proofs.Laws.{by-without-spaces}
 use borrow.Author.Needs.{needs}
 use Rattle.values.proofs.format_without_spaces.Statement.{statement}
 use Rattle.values.proofs.format_without_spaces.Tie as tie
+use Rattle.values.proofs.format_without_spaces.Reads as reads
+use Rattle.values.proofs.format_without_spaces.Lts as lts
+use Rattle.query.proofs.format_without_spaces.Reads as format-without-spaces-reads
+use Rattle.state.proofs.State.with_text.Reads as with-text-reads
+use Rattle.state.proofs.value_of.Reads as value-of-reads
+use Rattle.state.proofs.Laws.{value-inside}
+use Rattle.values.proofs.Laws.{by-without-spaces}
 
 value-of-requires : tie.Need-value-of-requires
 value-of-requires c κs = search needs

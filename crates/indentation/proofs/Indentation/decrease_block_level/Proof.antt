@@ -1,19 +1,27 @@
-use borrow.Author.Needs.{needs}
-use mathlib.Core.Path.{_≡_, sym, _∙_}
-use Rattle.rules.specs.Indentation.{decreaseBlockLevel}
-use Rattle.indentation.specs.Of.{Clean, indentationOf}
-use Rattle.indentation.proofs.Laws.{by-turn, by-shorter, by-closed}
 use Rattle.indentation.proofs.Indentation.decrease_block_level.Statement.{statement}
 use Rattle.indentation.proofs.Indentation.decrease_block_level.Tie as tie
+use Rattle.indentation.proofs.Indentation.decrease_block_level.Reads as reads
+use Rattle.indentation.proofs.Indentation.decrease_block_level.Lts as lts
+use Rattle.indentation.proofs.Indentation.decrease_top_level.Reads as decrease-top-level-reads
+use Rattle.indentation.proofs.Indentation.ends_top.Reads as ends-top-reads
+use Rattle.indentation.proofs.Indentation.pop_block.Reads as pop-block-reads
+use borrow.Author.Needs.{needs}
+use mathlib.Core.Path.{_≡_, refl, sym, _∙_}
+use Prim.Native.Nat.{ℕ, _≤_}
+use lib.ListN.{getD}
+use Rattle.rules.specs.Indentation.{decreaseBlockLevel}
+use Rattle.indentation.specs.Of.{Clean, indentationOf}
+use Rattle.indentation.proofs.StandLaws.{by-turn, by-shorter, by-closed}
 
 abbrev Inv-loop : tie.InvT-loop
-Inv-loop left₀ left = Clean left × (decreaseBlockLevel (indentationOf left) ≡ decreaseBlockLevel (indentationOf left₀))
+Inv-loop stacks₀ left₀ stacks left =
+    Clean left stacks × (decreaseBlockLevel (indentationOf left stacks) ≡ decreaseBlockLevel (indentationOf left₀ stacks₀)) × ((k : ℕ) → 1159 ≤ k → getD stacks k 0 ≡ getD stacks₀ k 0)
 
 abbrev μ-loop : tie.MeasureT-loop
-μ-loop left₀ left = left .nkinds
+μ-loop stacks₀ left₀ stacks left = left .nkinds
 
 loop-holds : tie.Need-loop-holds Inv-loop μ-loop
-loop-holds c = search needs
+loop-holds c = (c .before .pre, refl, λ k h. refl)
 
 ends-top-requires : tie.Need-ends-top-requires Inv-loop μ-loop
 ends-top-requires c κs = search needs
@@ -25,10 +33,17 @@ loop-less : tie.Need-loop-less Inv-loop μ-loop
 loop-less c = search (needs, by-shorter)
 
 loop-again : tie.Need-loop-again Inv-loop μ-loop
-loop-again c = search (needs, by-turn)
+loop-again c =
+    let s = c .before .before .decrease-top-level .ensures in
+    let inv = c .before .before .before .before .before .before .before .loop .inv in
+    (s .clean, by-turn _ _ _ _ (inv .0) _ (c .before .before .before .before .before .ends-top .ensures) _ (c .before .before .before .before .if1 .taken) s (inv .1), λ k h. s .above k h ∙ inv .2 k h)
 
 pop-block-requires : tie.Need-pop-block-requires Inv-loop μ-loop
-pop-block-requires c κs = (search needs, sym (c .before .ends-top .ensures) ∙ c .if1 .left)
+pop-block-requires c κs = (search needs, sym (c .before .before .ends-top .ensures) ∙ c .before .if1 .left)
+
+-- src/lib.rt:257:5
+same-length : tie.Need-same-length Inv-loop μ-loop
+same-length c = search (needs)
 
 returns : tie.Need-returns Inv-loop μ-loop
 returns c = search (needs, by-closed)
@@ -45,4 +60,5 @@ decrease-block-level-spec =
     loop-less
     loop-again
     pop-block-requires
+    same-length
     returns)

@@ -1,7 +1,9 @@
 use borrow.Author.Needs.{needs}
-use Rattle.indentation.proofs.Laws.{by-ends, by-ends-none}
 use Rattle.indentation.proofs.Indentation.ends_top.Statement.{statement}
 use Rattle.indentation.proofs.Indentation.ends_top.Tie as tie
+use Rattle.indentation.proofs.Indentation.ends_top.Reads as reads
+use Rattle.indentation.proofs.Indentation.ends_top.Lts as lts
+use Rattle.indentation.proofs.StandLaws.{by-ends, by-ends-none}
 
 returns : tie.Need-returns
 returns c = search (needs, by-ends-none)
@@ -9,11 +11,17 @@ returns c = search (needs, by-ends-none)
 sub-result : tie.Need-sub-result
 sub-result c = search needs
 
-element-copy-out-result : tie.Need-element-copy-out-result
-element-copy-out-result c = search needs
+-- src/lib.rt:208:9
+mul-result : tie.Need-mul-result
+mul-result c = search needs
+
+-- src/lib.rt:208:9
+shared-slice-read-result : tie.Need-shared-slice-read-result
+shared-slice-read-result c = search needs
 
 returns-2 : tie.Need-returns-2
 returns-2 c = search (needs, by-ends)
 
 pub ends-top-spec : {M : Type 1} → statement M
-ends-top-spec = tie.close (tie.spec returns sub-result element-copy-out-result returns-2)
+ends-top-spec =
+    tie.close (tie.spec returns sub-result mul-result shared-slice-read-result returns-2)

@@ -1,7 +1,15 @@
-use Rattle.indentation.proofs.Laws.{by-block, by-block-full}
 use borrow.Author.Needs.{needs}
 use Rattle.indentation.proofs.Indentation.increase_block_level.Statement.{statement}
 use Rattle.indentation.proofs.Indentation.increase_block_level.Tie as tie
+use Rattle.indentation.proofs.Indentation.increase_block_level.Reads as reads
+use Rattle.indentation.proofs.Indentation.increase_block_level.Lts as lts
+use Rattle.indentation.proofs.block_kind.Reads as block-kind-reads
+use Rattle.indentation.proofs.no_previous.Reads as no-previous-reads
+use Rattle.indentation.proofs.put_previous.Reads as put-previous-reads
+use Rattle.indentation.proofs.StandLaws.{by-block, by-block-full}
+use lib.ListN.{length-set}
+use mathlib.Core.Path.{_∙_}
+use Rattle.indentation.proofs.MemoryLaws.{length-put}
 
 returns : tie.Need-returns
 returns c = search (needs, by-block-full)
@@ -9,8 +17,13 @@ returns c = search (needs, by-block-full)
 block-kind-requires : tie.Need-block-kind-requires
 block-kind-requires c κs = search needs
 
-element-write-self : tie.Need-element-write-self
-element-write-self c = search needs
+-- src/lib.rt:192:9
+mul-stacks : tie.Need-mul-stacks
+mul-stacks c = search needs
+
+-- src/lib.rt:192:9
+slice-write-stacks : tie.Need-slice-write-stacks
+slice-write-stacks c = search needs
 
 add-self : tie.Need-add-self
 add-self c = search needs
@@ -18,14 +31,16 @@ add-self c = search needs
 no-previous-requires : tie.Need-no-previous-requires
 no-previous-requires c κs = search needs
 
-mul-t10 : tie.Need-mul-t10
-mul-t10 c = search needs
-
-element-set-from-self : tie.Need-element-set-from-self
-element-set-from-self c = search needs
+-- src/lib.rt:194:9
+put-previous-requires : tie.Need-put-previous-requires
+put-previous-requires c κs = search needs
 
 add-self-2 : tie.Need-add-self-2
 add-self-2 c = search needs
+
+-- src/lib.rt:183:5
+same-length : tie.Need-same-length
+same-length c = length-put _ _ _ _ (c .before .before .put-previous .ensures) ∙ simp length-set
 
 returns-2 : tie.Need-returns-2
 returns-2 c = search (needs, by-block)
@@ -36,10 +51,11 @@ increase-block-level-spec =
     (tie.spec
     returns
     block-kind-requires
-    element-write-self
+    mul-stacks
+    slice-write-stacks
     add-self
     no-previous-requires
-    mul-t10
-    element-set-from-self
+    put-previous-requires
     add-self-2
+    same-length
     returns-2)

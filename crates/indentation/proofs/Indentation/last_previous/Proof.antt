@@ -1,7 +1,11 @@
-use Rattle.indentation.proofs.Laws.{by-last, by-last-none}
 use borrow.Author.Needs.{needs}
 use Rattle.indentation.proofs.Indentation.last_previous.Statement.{statement}
 use Rattle.indentation.proofs.Indentation.last_previous.Tie as tie
+use Rattle.indentation.proofs.Indentation.last_previous.Reads as reads
+use Rattle.indentation.proofs.Indentation.last_previous.Lts as lts
+use Rattle.indentation.proofs.no_previous.Reads as no-previous-reads
+use Rattle.indentation.proofs.previous_at.Reads as previous-at-reads
+use Rattle.indentation.proofs.StandLaws.{by-last, by-last-none}
 
 no-previous-requires : tie.Need-no-previous-requires
 no-previous-requires c κs = search needs
@@ -9,14 +13,13 @@ no-previous-requires c κs = search needs
 returns : tie.Need-returns
 returns c = search (needs, by-last-none)
 
-sub-result : tie.Need-sub-result
-sub-result c = search needs
+-- src/lib.rt:308:29
+sub-previous-at : tie.Need-sub-previous-at
+sub-previous-at c = search needs
 
-mul-result : tie.Need-mul-result
-mul-result c = search needs
-
-element-copy-out-result : tie.Need-element-copy-out-result
-element-copy-out-result c = search needs
+-- src/lib.rt:308:9
+previous-at-requires : tie.Need-previous-at-requires
+previous-at-requires c κs = search needs
 
 returns-2 : tie.Need-returns-2
 returns-2 c = search (needs, by-last)
@@ -24,4 +27,4 @@ returns-2 c = search (needs, by-last)
 pub last-previous-spec : {M : Type 1} → statement M
 last-previous-spec =
     tie.close
-    (tie.spec no-previous-requires returns sub-result mul-result element-copy-out-result returns-2)
+    (tie.spec no-previous-requires returns sub-previous-at previous-at-requires returns-2)

@@ -1,7 +1,15 @@
-use Rattle.indentation.proofs.Laws.{by-block-pops, by-none-left}
 use borrow.Author.Needs.{needs}
 use Rattle.indentation.proofs.Indentation.pop_block.Statement.{statement}
 use Rattle.indentation.proofs.Indentation.pop_block.Tie as tie
+use Rattle.indentation.proofs.Indentation.pop_block.Reads as reads
+use Rattle.indentation.proofs.Indentation.pop_block.Lts as lts
+use Rattle.indentation.proofs.less.Reads as less-reads
+use Rattle.indentation.proofs.no_previous.Reads as no-previous-reads
+use Rattle.indentation.proofs.put_previous.Reads as put-previous-reads
+use Rattle.indentation.proofs.StandLaws.{by-block-pops, by-none-left}
+use lib.ListN.{length-set}
+use mathlib.Core.Path.{_∙_}
+use Rattle.indentation.proofs.MemoryLaws.{length-put}
 
 returns : tie.Need-returns
 returns c = search (needs, by-none-left)
@@ -12,20 +20,32 @@ sub-k c = search needs
 less-requires : tie.Need-less-requires
 less-requires c κs = search needs
 
-element-copy-out-kind : tie.Need-element-copy-out-kind
-element-copy-out-kind c = search needs
+-- src/lib.rt:246:20
+mul-kind : tie.Need-mul-kind
+mul-kind c = search needs
 
-element-write-self : tie.Need-element-write-self
-element-write-self c = search needs
+-- src/lib.rt:246:20
+slice-read-kind : tie.Need-slice-read-kind
+slice-read-kind c = search needs
+
+-- src/lib.rt:247:9
+mul-stacks : tie.Need-mul-stacks
+mul-stacks c = search needs
+
+-- src/lib.rt:247:9
+slice-write-stacks : tie.Need-slice-write-stacks
+slice-write-stacks c = search needs
 
 no-previous-requires : tie.Need-no-previous-requires
 no-previous-requires c κs = search needs
 
-mul-t9 : tie.Need-mul-t9
-mul-t9 c = search needs
+-- src/lib.rt:249:9
+put-previous-requires : tie.Need-put-previous-requires
+put-previous-requires c κs = search needs
 
-element-set-from-self : tie.Need-element-set-from-self
-element-set-from-self c = search needs
+-- src/lib.rt:232:5
+same-length : tie.Need-same-length
+same-length c = length-put _ _ _ _ (c .before .before .put-previous .ensures) ∙ simp length-set
 
 returns-2 : tie.Need-returns-2
 returns-2 c = search (needs, by-block-pops)
@@ -37,9 +57,11 @@ pop-block-spec =
     returns
     sub-k
     less-requires
-    element-copy-out-kind
-    element-write-self
+    mul-kind
+    slice-read-kind
+    mul-stacks
+    slice-write-stacks
     no-previous-requires
-    mul-t9
-    element-set-from-self
+    put-previous-requires
+    same-length
     returns-2)

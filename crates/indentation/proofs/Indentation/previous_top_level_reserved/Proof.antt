@@ -1,8 +1,11 @@
-use Rattle.indentation.specs.Of.{spanIn}
-use Rattle.indentation.proofs.Laws.{by-no-span, by-span-told}
 use borrow.Author.Needs.{needs}
 use Rattle.indentation.proofs.Indentation.previous_top_level_reserved.Statement.{statement}
 use Rattle.indentation.proofs.Indentation.previous_top_level_reserved.Tie as tie
+use Rattle.indentation.proofs.Indentation.previous_top_level_reserved.Reads as reads
+use Rattle.indentation.proofs.Indentation.previous_top_level_reserved.Lts as lts
+use Rattle.indentation.proofs.Indentation.last_previous.Reads as last-previous-reads
+use Rattle.indentation.specs.Of.{spanIn}
+use Rattle.indentation.proofs.StandLaws.{by-no-span, by-span-told}
 
 last-previous-requires : tie.Need-last-previous-requires
 last-previous-requires c κs = search needs

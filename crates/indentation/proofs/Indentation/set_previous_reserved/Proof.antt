@@ -1,7 +1,13 @@
-use Rattle.indentation.proofs.Laws.{by-first-reserved, by-next-reserved}
 use borrow.Author.Needs.{needs}
 use Rattle.indentation.proofs.Indentation.set_previous_reserved.Statement.{statement}
 use Rattle.indentation.proofs.Indentation.set_previous_reserved.Tie as tie
+use Rattle.indentation.proofs.Indentation.set_previous_reserved.Reads as reads
+use Rattle.indentation.proofs.Indentation.set_previous_reserved.Lts as lts
+use Rattle.indentation.proofs.no_previous.Reads as no-previous-reads
+use Rattle.indentation.proofs.previous_at.Reads as previous-at-reads
+use Rattle.indentation.proofs.put_previous.Reads as put-previous-reads
+use Rattle.indentation.proofs.reserved_after.Reads as reserved-after-reads
+use Rattle.indentation.proofs.StandLaws.{by-first-reserved, by-next-reserved}
 
 no-previous-requires : tie.Need-no-previous-requires
 no-previous-requires c κs = search needs
@@ -9,32 +15,39 @@ no-previous-requires c κs = search needs
 reserved-after-requires : tie.Need-reserved-after-requires
 reserved-after-requires c κs = search needs
 
-element-set-from-self : tie.Need-element-set-from-self
-element-set-from-self c = search needs
+-- src/lib.rt:275:13
+put-previous-requires : tie.Need-put-previous-requires
+put-previous-requires c κs = search needs
+
+-- src/lib.rt:277:13
+same-length : tie.Need-same-length
+same-length c = search needs
 
 returns : tie.Need-returns
 returns c = search (needs, by-first-reserved)
 
-sub-last : tie.Need-sub-last
-sub-last c = search needs
+-- src/lib.rt:279:40
+sub-previous-at : tie.Need-sub-previous-at
+sub-previous-at c = search needs
 
-mul-last : tie.Need-mul-last
-mul-last c = search needs
+-- src/lib.rt:279:13
+previous-at-requires : tie.Need-previous-at-requires
+previous-at-requires c κs = search needs
 
-element-copy-out-last : tie.Need-element-copy-out-last
-element-copy-out-last c = search needs
+-- src/lib.rt:280:30
+sub-put-previous : tie.Need-sub-put-previous
+sub-put-previous c = search needs
 
 reserved-after-requires-2 : tie.Need-reserved-after-requires-2
 reserved-after-requires-2 c κs = search needs
 
-sub-t11 : tie.Need-sub-t11
-sub-t11 c = search needs
+-- src/lib.rt:280:9
+put-previous-requires-2 : tie.Need-put-previous-requires-2
+put-previous-requires-2 c κs = search needs
 
-mul-t12 : tie.Need-mul-t12
-mul-t12 c = search needs
-
-element-set-from-self-2 : tie.Need-element-set-from-self-2
-element-set-from-self-2 c = search needs
+-- src/lib.rt:268:5
+same-length-2 : tie.Need-same-length-2
+same-length-2 c = search needs
 
 returns-2 : tie.Need-returns-2
 returns-2 c = search (needs, by-next-reserved)
@@ -45,13 +58,13 @@ set-previous-reserved-spec =
     (tie.spec
     no-previous-requires
     reserved-after-requires
-    element-set-from-self
+    put-previous-requires
+    same-length
     returns
-    sub-last
-    mul-last
-    element-copy-out-last
+    sub-previous-at
+    previous-at-requires
+    sub-put-previous
     reserved-after-requires-2
-    sub-t11
-    mul-t12
-    element-set-from-self-2
+    put-previous-requires-2
+    same-length-2
     returns-2)

@@ -1,7 +1,12 @@
-use Rattle.indentation.proofs.Laws.{by-first-top-level, by-next-top-level}
 use borrow.Author.Needs.{needs}
 use Rattle.indentation.proofs.Indentation.set_previous_top_level.Statement.{statement}
 use Rattle.indentation.proofs.Indentation.set_previous_top_level.Tie as tie
+use Rattle.indentation.proofs.Indentation.set_previous_top_level.Reads as reads
+use Rattle.indentation.proofs.Indentation.set_previous_top_level.Lts as lts
+use Rattle.indentation.proofs.previous_at.Reads as previous-at-reads
+use Rattle.indentation.proofs.put_previous.Reads as put-previous-reads
+use Rattle.indentation.proofs.top_level_after.Reads as top-level-after-reads
+use Rattle.indentation.proofs.StandLaws.{by-first-top-level, by-next-top-level}
 
 add-top-level-after : tie.Need-add-top-level-after
 add-top-level-after c = search needs
@@ -9,32 +14,39 @@ add-top-level-after c = search needs
 top-level-after-requires : tie.Need-top-level-after-requires
 top-level-after-requires c κs = search needs
 
-element-set-from-self : tie.Need-element-set-from-self
-element-set-from-self c = search needs
+-- src/lib.rt:291:13
+put-previous-requires : tie.Need-put-previous-requires
+put-previous-requires c κs = search needs
+
+-- src/lib.rt:293:13
+same-length : tie.Need-same-length
+same-length c = search needs
 
 returns : tie.Need-returns
 returns c = search (needs, by-first-top-level)
 
-sub-last : tie.Need-sub-last
-sub-last c = search needs
+-- src/lib.rt:295:40
+sub-previous-at : tie.Need-sub-previous-at
+sub-previous-at c = search needs
 
-mul-last : tie.Need-mul-last
-mul-last c = search needs
+-- src/lib.rt:295:13
+previous-at-requires : tie.Need-previous-at-requires
+previous-at-requires c κs = search needs
 
-element-copy-out-last : tie.Need-element-copy-out-last
-element-copy-out-last c = search needs
+-- src/lib.rt:296:30
+sub-put-previous : tie.Need-sub-put-previous
+sub-put-previous c = search needs
 
 top-level-after-requires-2 : tie.Need-top-level-after-requires-2
 top-level-after-requires-2 c κs = search needs
 
-sub-t12 : tie.Need-sub-t12
-sub-t12 c = search needs
+-- src/lib.rt:296:9
+put-previous-requires-2 : tie.Need-put-previous-requires-2
+put-previous-requires-2 c κs = search needs
 
-mul-t13 : tie.Need-mul-t13
-mul-t13 c = search needs
-
-element-set-from-self-2 : tie.Need-element-set-from-self-2
-element-set-from-self-2 c = search needs
+-- src/lib.rt:284:5
+same-length-2 : tie.Need-same-length-2
+same-length-2 c = search needs
 
 returns-2 : tie.Need-returns-2
 returns-2 c = search (needs, by-next-top-level)
@@ -45,13 +57,13 @@ set-previous-top-level-spec =
     (tie.spec
     add-top-level-after
     top-level-after-requires
-    element-set-from-self
+    put-previous-requires
+    same-length
     returns
-    sub-last
-    mul-last
-    element-copy-out-last
+    sub-previous-at
+    previous-at-requires
+    sub-put-previous
     top-level-after-requires-2
-    sub-t12
-    mul-t13
-    element-set-from-self-2
+    put-previous-requires-2
+    same-length-2
     returns-2)

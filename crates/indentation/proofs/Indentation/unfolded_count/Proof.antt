@@ -1,27 +1,38 @@
+use Rattle.indentation.proofs.Indentation.unfolded_count.Statement.{statement}
+use Rattle.indentation.proofs.Indentation.unfolded_count.Tie as tie
+use Rattle.indentation.proofs.Indentation.unfolded_count.Reads as reads
+use Rattle.indentation.proofs.Indentation.unfolded_count.Lts as lts
+use Rattle.indentation.proofs.weight.Reads as weight-reads
 use borrow.Author.Needs.{needs}
+use denote.Ref.{now}
 use mathlib.Core.Path.{_≡_, _∙_}
 use mathlib.Core.List.{map}
 use Prim.Native.Nat.{_-_, _≤_}
 use native.Mathlib.Omega.{arith}
 use Rattle.rules.specs.Indentation.{unfolded}
 use Rattle.stacks.specs.Stack.{stack}
-use Rattle.indentation.specs.Of.{typeOf, typesOf}
-use Rattle.indentation.proofs.Laws.{counts-on}
-use Rattle.indentation.proofs.Indentation.unfolded_count.Statement.{statement}
-use Rattle.indentation.proofs.Indentation.unfolded_count.Tie as tie
+use Rattle.indentation.specs.Stacks.{typeOf}
+use Rattle.indentation.specs.Stacks as stacks
+use Rattle.indentation.specs.Of.{kindsIn, typesOf}
+use Rattle.indentation.proofs.StandLaws.{counts-on}
 
 abbrev Inv-loop : tie.InvT-loop
-Inv-loop self n i₀ count₀ i count = (i ≤ n) × (count ≤ i) × (count ≡ unfolded (map typeOf (stack 0 i (self .kinds))))
+Inv-loop stacks n i₀ count₀ i count = (i ≤ n) × (count ≤ i) × (count ≡ unfolded (map typeOf (stack 0 i (kindsIn stacks))))
 
 abbrev μ-loop : tie.MeasureT-loop
-μ-loop self n i₀ count₀ i count = n - i
+μ-loop stacks n i₀ count₀ i count = n - i
 
 loop-holds : tie.Need-loop-holds Inv-loop μ-loop
 unfolding unfolded
 loop-holds c = search needs
 
-element-copy-out-weight : tie.Need-element-copy-out-weight Inv-loop μ-loop
-element-copy-out-weight c = search needs
+-- src/lib.rt:360:29
+mul-weight : tie.Need-mul-weight Inv-loop μ-loop
+mul-weight c = search needs
+
+-- src/lib.rt:360:29
+shared-slice-read-weight : tie.Need-shared-slice-read-weight Inv-loop μ-loop
+shared-slice-read-weight c = search needs
 
 weight-requires : tie.Need-weight-requires Inv-loop μ-loop
 weight-requires c κs = search needs
@@ -36,12 +47,17 @@ loop-less : tie.Need-loop-less Inv-loop μ-loop
 loop-less c = omega arith
 
 loop-again : tie.Need-loop-again Inv-loop μ-loop
-loop-again c = search (needs, counts-on)
+loop-again c =
+    let inv = c .before .before .before .loop .inv in
+    let w = c .weight .ensures in
+    let k = c .before .before .before .before .before .pre .stacks .kinds .within in
+    let t = c .before .before .loop-test .taken in
+    (omega arith, omega arith, counts-on (now (c .before .before .before .before .before .args .stacks)) (c .before .before .before .loop .i) (c .before .before .before .loop .count) (c .weight .result) (omega arith) (w .0) (inv .2))
 
 returns : tie.Need-returns Inv-loop μ-loop
-unfolding typesOf
-returns c = let e : c .before .loop .i ≡ c .before .before .args .t1 .nkinds = omega arith in
-    (c .before .loop .inv .2 ∙ rw e, let k = c .before .before .pre .kinds .within in omega arith)
+unfolding typesOf stacks.typesOf
+returns c = let e : c .before .loop .i ≡ c .before .before .before .args .self .nkinds = omega arith in
+    (c .before .loop .inv .2 ∙ rw e, let k = c .before .before .before .pre .stacks .kinds .within in omega arith)
 
 pub unfolded-count-spec : {M : Type 1} → statement M
 unfolded-count-spec =
@@ -50,7 +66,8 @@ unfolded-count-spec =
     Inv-loop
     μ-loop
     loop-holds
-    element-copy-out-weight
+    mul-weight
+    shared-slice-read-weight
     weight-requires
     add-count
     add-i

@@ -1,16 +1,28 @@
 use borrow.Author.Needs.{needs}
-use Rattle.inline_block.proofs.Laws.{by-begin, by-no-room, by-not-inline}
 use Rattle.inline_block.proofs.InlineBlock.begin_if_possible.Statement.{statement}
 use Rattle.inline_block.proofs.InlineBlock.begin_if_possible.Tie as tie
+use Rattle.inline_block.proofs.InlineBlock.begin_if_possible.Reads as reads
+use Rattle.inline_block.proofs.InlineBlock.begin_if_possible.Lts as lts
+use Rattle.inline_block.proofs.Laws.{by-begin, by-no-room, by-not-inline}
 
-mul-self : tie.Need-mul-self
-mul-self c = search needs
+-- src/lib.rt:28:24
+add-stacks : tie.Need-add-stacks
+add-stacks c = search needs
 
-element-write-self : tie.Need-element-write-self
-element-write-self c = search needs
+-- src/lib.rt:28:17
+mul-stacks : tie.Need-mul-stacks
+mul-stacks c = search needs
+
+-- src/lib.rt:28:17
+slice-write-stacks : tie.Need-slice-write-stacks
+slice-write-stacks c = search needs
 
 add-self : tie.Need-add-self
 add-self c = search needs
+
+-- src/lib.rt:30:17
+same-length : tie.Need-same-length
+same-length c = search needs
 
 returns : tie.Need-returns
 returns c = search (needs, by-begin)
@@ -23,4 +35,13 @@ returns-3 c = search (needs, by-not-inline)
 
 pub begin-if-possible-spec : {M : Type 1} → statement M
 begin-if-possible-spec =
-    tie.close (tie.spec mul-self element-write-self add-self returns returns-2 returns-3)
+    tie.close
+    (tie.spec
+    add-stacks
+    mul-stacks
+    slice-write-stacks
+    add-self
+    same-length
+    returns
+    returns-2
+    returns-3)

@@ -1,10 +1,16 @@
 use borrow.Author.Needs.{needs}
-use Rattle.inline_block.proofs.Laws.{by-cur, by-cur-none}
 use Rattle.inline_block.proofs.InlineBlock.cur_len.Statement.{statement}
 use Rattle.inline_block.proofs.InlineBlock.cur_len.Tie as tie
+use Rattle.inline_block.proofs.InlineBlock.cur_len.Reads as reads
+use Rattle.inline_block.proofs.InlineBlock.cur_len.Lts as lts
+use Rattle.inline_block.proofs.Laws.{by-cur, by-cur-none}
 
 returns : tie.Need-returns
 returns c = search (needs, by-cur-none)
+
+-- src/lib.rt:69:16
+add-result : tie.Need-add-result
+add-result c = search needs
 
 sub-result : tie.Need-sub-result
 sub-result c = search needs
@@ -12,11 +18,14 @@ sub-result c = search needs
 mul-result : tie.Need-mul-result
 mul-result c = search needs
 
-element-copy-out-result : tie.Need-element-copy-out-result
-element-copy-out-result c = search needs
+-- src/lib.rt:69:9
+shared-slice-read-result : tie.Need-shared-slice-read-result
+shared-slice-read-result c = search needs
 
 returns-2 : tie.Need-returns-2
 returns-2 c = search (needs, by-cur)
 
 pub cur-len-spec : {M : Type 1} → statement M
-cur-len-spec = tie.close (tie.spec returns sub-result mul-result element-copy-out-result returns-2)
+cur-len-spec =
+    tie.close
+    (tie.spec returns add-result sub-result mul-result shared-slice-read-result returns-2)

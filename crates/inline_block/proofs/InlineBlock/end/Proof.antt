@@ -1,25 +1,48 @@
 use borrow.Author.Needs.{needs}
-use Rattle.inline_block.proofs.Laws.{by-end, by-none}
 use Rattle.inline_block.proofs.InlineBlock.end.Statement.{statement}
 use Rattle.inline_block.proofs.InlineBlock.end.Tie as tie
+use Rattle.inline_block.proofs.InlineBlock.end.Reads as reads
+use Rattle.inline_block.proofs.InlineBlock.end.Lts as lts
+use Rattle.inline_block.proofs.Laws.{by-end, by-none}
 
 returns : tie.Need-returns
 returns c = search (needs, by-none)
 
+-- src/lib.rt:44:16
+add-stacks : tie.Need-add-stacks
+add-stacks c = search needs
+
+-- src/lib.rt:44:16
+sub-stacks : tie.Need-sub-stacks
+sub-stacks c = search needs
+
+-- src/lib.rt:44:9
+mul-stacks : tie.Need-mul-stacks
+mul-stacks c = search needs
+
+-- src/lib.rt:44:9
+slice-write-stacks : tie.Need-slice-write-stacks
+slice-write-stacks c = search needs
+
 sub-self : tie.Need-sub-self
 sub-self c = search needs
 
-mul-self : tie.Need-mul-self
-mul-self c = search needs
-
-element-write-self : tie.Need-element-write-self
-element-write-self c = search needs
-
-sub-self-2 : tie.Need-sub-self-2
-sub-self-2 c = search needs
+-- src/lib.rt:36:5
+same-length : tie.Need-same-length
+same-length c = search needs
 
 returns-2 : tie.Need-returns-2
 returns-2 c = search (needs, by-end)
 
 pub end-spec : {M : Type 1} → statement M
-end-spec = tie.close (tie.spec returns sub-self mul-self element-write-self sub-self-2 returns-2)
+end-spec =
+    tie.close
+    (tie.spec
+    returns
+    add-stacks
+    sub-stacks
+    mul-stacks
+    slice-write-stacks
+    sub-self
+    same-length
+    returns-2)

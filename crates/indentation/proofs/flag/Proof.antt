@@ -1,0 +1,19 @@
+use Rattle.indentation.proofs.flag.Statement.{statement}
+use Rattle.indentation.proofs.flag.Tie as tie
+use Rattle.indentation.proofs.flag.Reads as reads
+use Rattle.indentation.proofs.flag.Lts as lts
+use borrow.Author.Needs.{needs}
+use Rattle.indentation.specs.Of.{flagOf}
+
+-- src/lib.rt:82:1
+returns : tie.Need-returns
+unfolding flagOf
+returns c = search needs
+
+-- src/lib.rt:82:1
+returns-2 : tie.Need-returns-2
+unfolding flagOf
+returns-2 c = search needs
+
+pub flag-spec : {M : Type 1} → statement M
+flag-spec = tie.close (tie.spec returns returns-2)

@@ -1,0 +1,116 @@
+-- The stacks as lists of their entries, and what they stand for: words are tokens' numbers.
+use mathlib.Core.Path.{_≡_}
+use mathlib.Core.Bool.{Bool, true, false}
+use mathlib.Core.Option.{Option, none, some}
+use mathlib.Core.List.{List, [], _∷_, map}
+use Prim.Native.Nat.{ℕ, zero, suc, _+_, _≤_}
+use lib.ListN.{getD}
+use Rattle.rules.specs.declared.IndentType.{IndentType}
+use Rattle.rules.specs.declared.IndentType.the-variants.{Top, Block, FoldedBlock}
+use Rattle.rules.specs.declared.SpanInfo.{SpanInfo}
+use Rattle.rules.specs.Base.{if_then_else_}
+use Rattle.rules.specs.Indentation.{Indentation, PreviousTokens, Closed}
+use Rattle.stacks.specs.Stack.{stack, Kept}
+use Rattle.indentation.specs.declared.Previous.{Previous}
+
+-- each stack's array and the number of its entries
+pub record Stacks : Type 0 where
+  pub kinds : List ℕ
+  pub nkinds : ℕ
+  pub spans : List ℕ
+  pub nspans : ℕ
+  pub previous : List Previous
+  pub nprevious : ℕ
+
+unfoldable pub typeOf : ℕ → IndentType
+typeOf zero = Top
+typeOf (suc zero) = Block
+typeOf (suc (suc k)) = FoldedBlock
+
+unfoldable pub kindFor : Bool → ℕ
+kindFor true = 2
+kindFor false = 1
+
+-- 0 of a folded block, and 1
+unfoldable pub weightOf : ℕ → ℕ
+weightOf zero = 1
+weightOf (suc zero) = 1
+weightOf (suc (suc k)) = 0
+
+unfoldable pub wordOf : ℕ → Option ℕ
+wordOf zero = none
+wordOf (suc n) = some n
+
+unfoldable pub topOf : Bool → SpanInfo → Option SpanInfo
+topOf true sp = some sp
+topOf false sp = none
+
+unfoldable pub previousOf : Previous → PreviousTokens ℕ
+previousOf p = record { topLevelReserved = topOf (p .«top_level») (p .span); reserved = wordOf (p .word) }
+
+abbrev pub noSpan : SpanInfo
+noSpan = record { «full_span» = 0; blocks = 0; «newline_before» = false; «newline_after» = false; arguments = 0 }
+
+abbrev pub noPrevious : Previous
+noPrevious = record { span = noSpan; word = 0; «top_level» = false }
+
+abbrev pub reservedAfter : Previous → ℕ → Previous
+reservedAfter p token = record { span = p .span; word = token + 1; «top_level» = p .«top_level» }
+
+abbrev pub topLevelAfter : ℕ → SpanInfo → Previous
+topLevelAfter word sp = record { span = sp; word = word; «top_level» = true }
+
+unfoldable pub typesOf : Stacks → List IndentType
+typesOf i = map typeOf (stack 0 (i .nkinds) (i .kinds))
+
+unfoldable pub indentationOf : Stacks → Indentation ℕ
+indentationOf i =
+    record {
+      indentTypes = typesOf i;
+      topLevelSpan = stack 0 (i .nspans) (i .spans);
+      previous = map previousOf (stack noPrevious (i .nprevious) (i .previous));
+    }
+
+-- the last previous words, or none
+unfoldable pub lastOf : Stacks → Previous
+lastOf i = getD (stack noPrevious (i .nprevious) (i .previous)) 0 noPrevious
+
+-- the top-level entries
+unfoldable pub tops : List IndentType → ℕ
+tops [] = 0
+tops (Top ∷ ts) = suc (tops ts)
+tops (Block ∷ ts) = tops ts
+tops (FoldedBlock ∷ ts) = tops ts
+
+-- a span stands only where there is a top-level word
+abbrev pub Told : Previous → Type 0
+Told p = p .«top_level» ≡ false → p .span ≡ noSpan
+
+-- the invariant: each stack is kept, a span for each top-level entry, at most one previous word more than entries
+pub record Clean (i : Stacks) : Type 0 where
+  pub kinds : Kept 0 128 (i .nkinds) (i .kinds)
+  pub known : (k : ℕ) → getD (i .kinds) k 0 ≤ 2
+  pub spans : Kept 0 128 (i .nspans) (i .spans)
+  pub paired : i .nspans ≡ tops (typesOf i)
+  pub previous : Kept noPrevious 129 (i .nprevious) (i .previous)
+  pub told : (k : ℕ) → Told (getD (i .previous) k noPrevious)
+  pub fewer : i .nprevious ≤ i .nkinds + 1
+
+-- r is the one value for w
+pub record Stands (w : Indentation ℕ) (r : Stacks) : Type 0 where
+  pub is : indentationOf r ≡ w
+  pub clean : Clean r
+
+pub record ClosedStacks : Type 0 where
+  pub folded : Bool
+  pub left : Stacks
+
+pub record StandsClosed (w : Closed ℕ) (r : ClosedStacks) : Type 0 where
+  pub folded : r .folded ≡ w .folded
+  pub left : Stands (w .left) (r .left)
+
+unfoldable pub endsTop : List IndentType → Bool
+endsTop [] = false
+endsTop (Top ∷ ts) = true
+endsTop (Block ∷ ts) = false
+endsTop (FoldedBlock ∷ ts) = false
