@@ -1,87 +1,108 @@
-//! The proved call and the Rust on the same sheets: time for each, as ratios.
+//! The proved call and the Rust on the same sheets: the time of each, and ratios.
 
 use std::hint::black_box;
+use std::panic;
 use std::time::{Duration, Instant};
 
 use crate::call;
-use crate::oracle;
+use crate::oracle::{self, Read};
 use crate::random::Dice;
 use crate::random::query::sized;
-use crate::sheet::{self, Sheet};
+use crate::sheet::{Sheet, Token, in_turn};
 
-const SIZES: [usize; 3] = [16, 128, 1024];
-/// Sheets of each size; every one is laid out in each round.
+const SIZES: [usize; 4] = [16, 128, 512, 1024];
+/// Sheets of each shape and size.
 const SHEETS: u64 = 32;
-const ROUNDS: usize = 15;
-const ROUND: Duration = Duration::from_millis(40);
+const ROUNDS: usize = 300;
+const ROUND: Duration = Duration::from_millis(2);
 
-fn read(bytes: &[u8]) -> oracle::Read<'_> {
+type Maker = fn(&mut Dice, usize) -> Vec<Token>;
+const SHAPES: [(&str, Maker); 2] = [("realistic", sized::usual), ("deep", sized::deep)];
+
+pub fn run(seed: u64) -> bool {
+    if checks_overflow() {
+        eprintln!("build with --profile speed: this build checks every sum of the Rust");
+        return false;
+    }
+    println!("nanoseconds a sheet, the least of {ROUNDS} rounds over {SHEETS} sheets, seed {seed}");
+    println!(
+        "shape      tokens    call  Rust from bytes  format alone  to bytes  to format  a token"
+    );
+    for (shape, make) in SHAPES {
+        for size in SIZES {
+            let sheets: Vec<_> = (0..SHEETS).map(|turn| sheet(make, seed, turn, size)).collect();
+            row(shape, size, &sheets);
+        }
+    }
+    clearing();
+    true
+}
+
+/// Refusals 5 and 8 want such a build; the desk does not run one.
+fn checks_overflow() -> bool {
+    panic::catch_unwind(|| black_box(u8::MAX) + black_box(1)).is_err()
+}
+
+fn sheet(make: Maker, seed: u64, turn: u64, size: usize) -> Vec<u8> {
+    let tokens = make(&mut Dice::new(seed, turn), size);
+    Sheet { tokens, ..Sheet::default() }.encode(&mut in_turn)
+}
+
+fn read(bytes: &[u8]) -> Read<'_> {
     oracle::read(bytes).expect("a whole sheet")
 }
 
-/// The least time of one turn over the sheets, in nanoseconds a sheet.
-fn least(sheets: usize, mut turn: impl FnMut()) -> f64 {
-    let started = Instant::now();
-    let mut turns = 0;
-    while turns == 0 || started.elapsed() < ROUND {
-        turn();
-        turns += 1;
-    }
-    let best = (0..ROUNDS).map(|_| {
-        let started = Instant::now();
-        (0..turns).for_each(|_| turn());
-        started.elapsed().as_nanos() as f64 / turns as f64
-    });
-    best.fold(f64::INFINITY, f64::min) / sheets as f64
-}
-
-fn measure(shape: &str, size: usize, sheets: &[Vec<u8>]) {
-    let rooms: Vec<usize> = sheets.iter().map(|bytes| read(bytes).format().len()).collect();
-    let mut buffer = vec![0; 2 * rooms.iter().max().copied().unwrap_or(0)];
-    let ours = least(sheets.len(), || {
-        for (bytes, room) in sheets.iter().zip(&rooms) {
-            let report = call::layout(bytes, &mut buffer[..2 * room]);
-            assert_eq!((report.refusal, report.length), (0, *room as u64));
-            black_box(&buffer);
+fn row(shape: &str, size: usize, sheets: &[Vec<u8>]) {
+    let reads: Vec<Read> = sheets.iter().map(|bytes| read(bytes)).collect();
+    let lengths: Vec<usize> = reads.iter().map(|read| read.format().len()).collect();
+    // A buffer of twice the text's length: the call clears it all.
+    let mut buffer = vec![0; 2 * lengths.iter().copied().max().unwrap_or(0)];
+    let mut call = || {
+        for (bytes, length) in sheets.iter().zip(&lengths) {
+            let report = call::layout(bytes, &mut buffer[..2 * length]);
+            assert_eq!((report.refusal, report.length), (0, *length as u64));
         }
-    });
-    let whole = least(sheets.len(), || {
-        for bytes in sheets {
-            black_box(read(bytes).format());
-        }
-    });
-    let read: Vec<_> = sheets.iter().map(|bytes| read(bytes)).collect();
-    let alone = least(sheets.len(), || {
-        for read in &read {
-            black_box(read.format());
-        }
-    });
+    };
+    let mut whole = || sheets.iter().for_each(|bytes| drop(black_box(read(bytes).format())));
+    let mut alone = || reads.iter().for_each(|read| drop(black_box(read.format())));
+    let times = least([&mut call, &mut whole, &mut alone]);
+    let [call, whole, alone] = times.map(|time| time / sheets.len() as f64);
+    let (to_whole, to_alone, token) = (call / whole, call / alone, call / size as f64);
     println!(
-        "{shape:10} {size:6} {:8.0} {:8.0} {:8.0} {:8.2} {:8.2} {:8.1}",
-        ours,
-        whole,
-        alone,
-        ours / whole,
-        ours / alone,
-        ours / size as f64
+        "{shape:10} {size:6} {call:7.0} {whole:16.0} {alone:13.0} {to_whole:9.2} {to_alone:10.2} {token:8.1}"
     );
 }
 
-pub fn run(seed: u64) -> bool {
-    println!("shape      tokens     ours  of bytes  format  /bytes  /format  ns/token");
-    for size in SIZES {
-        let made = |deep: bool| -> Vec<Vec<u8>> {
-            (0..SHEETS)
-                .map(|turn| {
-                    let mut dice = Dice::new(seed, turn);
-                    let make = if deep { sized::deep } else { sized::usual };
-                    let tokens = make(&mut dice, size);
-                    Sheet { tokens, ..Sheet::default() }.encode(&mut sheet::in_turn)
-                })
-                .collect()
+/// What an empty sheet costs, and what a long buffer adds to it.
+fn clearing() {
+    let empty = Sheet::default().encode(&mut in_turn);
+    let mut buffer = vec![1; 65536];
+    for room in [0, 65536] {
+        let mut call = || {
+            black_box(call::layout(&empty, &mut buffer[..room]));
         };
-        measure("realistic", size, &made(false));
-        measure("deep", size, &made(true));
+        let [call] = least([&mut call]);
+        println!("no tokens, a buffer of {room}: {call:.0}");
     }
-    true
+}
+
+/// The least time of a turn of each, in nanoseconds. The rounds are short and go in turn, so that each has some that nothing else on the machine disturbs.
+fn least<const N: usize>(mut runs: [&mut dyn FnMut(); N]) -> [f64; N] {
+    let turns = runs.each_mut().map(|run| {
+        let started = Instant::now();
+        let turns = (1..).find(|_| {
+            run();
+            started.elapsed() >= ROUND
+        });
+        turns.unwrap_or(1)
+    });
+    let mut best = [f64::INFINITY; N];
+    for _ in 0..ROUNDS {
+        for i in 0..N {
+            let started = Instant::now();
+            (0..turns[i]).for_each(|_| runs[i]());
+            best[i] = best[i].min(started.elapsed().as_nanos() as f64 / f64::from(turns[i]));
+        }
+    }
+    best
 }

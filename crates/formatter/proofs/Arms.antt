@@ -1,8 +1,11 @@
 -- A token's rule by its kind. Assumes nothing.
 use mathlib.Core.Path.{_≡_, refl, sym, ap, _∙_}
-use mathlib.Core.List.{List}
+use mathlib.Core.List.{List, [], _∷_}
 use Prim.Native.Nat.{ℕ}
 use lib.ListN.{length}
+use types.Run.{OneOf, miss}
+use denote.Enum.Declared as Declared
+use Rattle.rules.proofs.TokenKind as kinds
 use Rattle.rules.specs.declared.TokenKind.{TokenKind}
 use Rattle.rules.specs.declared.TokenKind.the-variants as kind
 use Rattle.rules.specs.Tokens.{Here}
@@ -17,6 +20,9 @@ use Rattle.state.specs.declared.Context.{Context}
 use Rattle.state.specs.Of.{stateOf, Ready, envIn, hereIn, Handled}
 use Rattle.formatter.specs.Run.{tokenRule, kindIn}
 use Rattle.formatter.proofs.Laws.{same-state}
+
+left-over : List ℕ
+left-over = 2 ∷ 8 ∷ 13 ∷ 15 ∷ 16 ∷ []
 
 module _ (s : List ℕ) (x : Context) (i : ℕ) (st : Code) (m d : List ℕ) (ready : Ready s x i st m d) (k : TokenKind) (told : k ≡ kindIn s x i) where
   -- the rule of the kind j is f
@@ -80,23 +86,29 @@ module _ (s : List ℕ) (x : Context) (i : ℕ) (st : Code) (m d : List ℕ) (re
     unfolding formatToken
     by-type-specifier e = by-kind kind.TypeSpecifier formatTypeSpecifier r n q e (λ v h u. refl)
 
-    -- five kinds go by their value
-    pub by-string : k ≡ kind.String → Handled s x i (onValue formatByValue) st m d r n q → Handled s x i tokenRule st m d r n q
-    unfolding formatToken
-    by-string e = by-kind kind.String (onValue formatByValue) r n q e (λ v h u. refl)
+    by-own : (j : TokenKind) → k ≡ j → ((e : Env) (h : Here) (u : State) → formatToken e h j u ≡ onValue formatByValue e h u) → Handled s x i (onValue formatByValue) st m d r n q → Handled s x i tokenRule st m d r n q
+    by-own j e rule = by-kind j (onValue formatByValue) r n q e rule
 
-    pub by-operator : k ≡ kind.Operator → Handled s x i (onValue formatByValue) st m d r n q → Handled s x i tokenRule st m d r n q
-    unfolding formatToken
-    by-operator e = by-kind kind.Operator (onValue formatByValue) r n q e (λ v h u. refl)
-
-    pub by-number : k ≡ kind.Number → Handled s x i (onValue formatByValue) st m d r n q → Handled s x i tokenRule st m d r n q
-    unfolding formatToken
-    by-number e = by-kind kind.Number (onValue formatByValue) r n q e (λ v h u. refl)
-
-    pub by-word : k ≡ kind.Word → Handled s x i (onValue formatByValue) st m d r n q → Handled s x i tokenRule st m d r n q
-    unfolding formatToken
-    by-word e = by-kind kind.Word (onValue formatByValue) r n q e (λ v h u. refl)
-
-    pub by-join : k ≡ kind.Join → Handled s x i (onValue formatByValue) st m d r n q → Handled s x i tokenRule st m d r n q
-    unfolding formatToken
-    by-join e = by-kind kind.Join (onValue formatByValue) r n q e (λ v h u. refl)
+    -- the five kinds that have no arm of their own go by their value
+    pub by-rest : OneOf (2 ∷ 8 ∷ 13 ∷ 15 ∷ 16 ∷ []) (Declared.tagOf kinds.the-type k) → Handled s x i (onValue formatByValue) st m d r n q → Handled s x i tokenRule st m d r n q
+    unfolding left-over formatToken
+    by-rest = go k refl
+      where
+        go : (j : TokenKind) → k ≡ j → OneOf left-over (Declared.tagOf kinds.the-type j) → Handled s x i (onValue formatByValue) st m d r n q → Handled s x i tokenRule st m d r n q
+        go kind.TypeSpecifier e o h = absurd (miss left-over 0 tt o)
+        go kind.Whitespace e o h = absurd (miss left-over 1 tt o)
+        go kind.String e o h = by-own kind.String e (λ v w u. refl) h
+        go kind.Reserved e o h = absurd (miss left-over 3 tt o)
+        go kind.ReservedTopLevel e o h = absurd (miss left-over 4 tt o)
+        go kind.ReservedTopLevelNoIndent e o h = absurd (miss left-over 5 tt o)
+        go kind.ReservedNewline e o h = absurd (miss left-over 6 tt o)
+        go kind.ReservedNewlineAfter e o h = absurd (miss left-over 7 tt o)
+        go kind.Operator e o h = by-own kind.Operator e (λ v w u. refl) h
+        go kind.OpenParen e o h = absurd (miss left-over 9 tt o)
+        go kind.CloseParen e o h = absurd (miss left-over 10 tt o)
+        go kind.LineComment e o h = absurd (miss left-over 11 tt o)
+        go kind.BlockComment e o h = absurd (miss left-over 12 tt o)
+        go kind.Number e o h = by-own kind.Number e (λ v w u. refl) h
+        go kind.Placeholder e o h = absurd (miss left-over 14 tt o)
+        go kind.Word e o h = by-own kind.Word e (λ v w u. refl) h
+        go kind.Join e o h = by-own kind.Join e (λ v w u. refl) h

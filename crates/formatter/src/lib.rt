@@ -76,11 +76,7 @@ fn format_token(
         ),
         TokenKind::Placeholder => values::format_placeholder(query, stacks, s, sheet, x, i),
         TokenKind::TypeSpecifier => comments::format_type_specifier(query, stacks, s, sheet, x, i),
-        TokenKind::String => values::format_by_value(query, stacks, s, sheet, x, i),
-        TokenKind::Operator => values::format_by_value(query, stacks, s, sheet, x, i),
-        TokenKind::Number => values::format_by_value(query, stacks, s, sheet, x, i),
-        TokenKind::Word => values::format_by_value(query, stacks, s, sheet, x, i),
-        TokenKind::Join => values::format_by_value(query, stacks, s, sheet, x, i),
+        _ => values::format_by_value(query, stacks, s, sheet, x, i),
     }
 }
 

@@ -6,7 +6,8 @@ use native.Mathlib.Omega.{arith}
 use lib.ListN.{length, getD}
 use Rattle.indentation.specs.declared.Indentation.{Indentation as Counts}
 use Rattle.indentation.specs.Of.{stacksOf, indentationOf, Sound, Clean}
-use Rattle.indentation.proofs.MemoryLaws.{flags-same, kinds-same, spans-same, previous-same}
+use Rattle.indentation.proofs.MemoryLaws.{kinds-same, spans-same, previous-same}
+use Rattle.previous.proofs.Laws.{flags-same}
 
 module _ (c : Counts) (m q : List ℕ) (e : (k : ℕ) → k < 1159 → getD q k 0 ≡ getD m k 0) where
   stacks-same : stacksOf c q ≡ stacksOf c m

@@ -15,15 +15,16 @@ use Rattle.rules.specs.declared.SpanInfo.{SpanInfo}
 use Rattle.rules.specs.InlineBlock.{full}
 use Rattle.rules.specs.Indentation.{Indentation, Closed, noIndentation, increaseTopLevel, increaseBlockLevel, decreaseTopLevel, decreaseBlockLevel, setPreviousReserved, setPreviousTopLevel, previousReserved, previousTopLevelReserved, unfolded, indentLevel, span}
 use Rattle.stacks.specs.Table.{getD-table, table-all}
-use Rattle.indentation.specs.declared.Previous.{Previous}
+use Rattle.previous.specs.declared.Previous.{Previous}
 use Rattle.indentation.specs.declared.Indentation.{Indentation as Counts}
 use Rattle.indentation.specs.declared.Closed.{Closed as CodeClosed}
 use Rattle.indentation.specs.Stacks as stacks
 use Rattle.stacks.specs.Stack.{stack}
-use Rattle.indentation.specs.Stacks.{Stacks, ClosedStacks, weightOf, typeOf, noSpan, noPrevious, kindFor, reservedAfter, topLevelAfter, endsTop}
-use Rattle.indentation.specs.Of.{noCounts, entryAt, Flags, putPrevious, previousAt, kindsIn, spansIn, previousIn, stacksOf, indentationOf, typesOf, lastOf, Sound, Clean, Stands, StandsClosed}
+use Rattle.indentation.specs.Stacks.{Stacks, ClosedStacks, weightOf, typeOf, kindFor, endsTop}
+use Rattle.indentation.specs.Of.{noCounts, kindsIn, spansIn, previousIn, stacksOf, indentationOf, typesOf, lastOf, Sound, Clean, Stands, StandsClosed}
 use Rattle.indentation.proofs.Laws as laws
 use Rattle.indentation.proofs.MemoryLaws.{kinds-kind, spans-kind, previous-kind, kinds-span, spans-span, sound-set, kinds-previous, spans-previous, previous-previous, above-previous, sound-previous}
+use Rattle.previous.specs.Of.{Flags, entryAt, noPrevious, noSpan, previousAt, putPrevious, reservedAfter, topLevelAfter}
 
 -- the memory q has these stacks, and the rest of m
 pub record Holds (m q k s : List ℕ) (p : List Previous) : Type 0 where

@@ -11,7 +11,8 @@ use Rattle.rules.specs.declared.SpanInfo.{SpanInfo}
 use Rattle.rules.specs.declared.IndentType.{IndentType}
 use Rattle.rules.specs.Indentation.{Indentation, Closed}
 use Rattle.stacks.specs.Table.{table}
-use Rattle.indentation.specs.declared.Previous.{Previous}
+use Rattle.previous.specs.declared.Previous.{Previous}
+use Rattle.previous.specs.Of.{previousAt, Flags}
 use Rattle.indentation.specs.declared.Indentation.{Indentation as Counts}
 use Rattle.indentation.specs.declared.Word.{Word}
 use Rattle.indentation.specs.declared.TopLevel.{TopLevel}
@@ -20,37 +21,6 @@ use Rattle.indentation.specs.Stacks as stacks
 
 abbrev pub noCounts : Counts
 noCounts = record { nkinds = 0; nspans = 0; nprevious = 0 }
-
--- ---- a previous entry: seven words from 256 + 7 k
-
-unfoldable pub flagOf : Bool → ℕ
-flagOf true = 1
-flagOf false = 0
-
-unfoldable pub wordsOf : Previous → List ℕ
-wordsOf p =
-    p .span .«full_span» ∷ p .span .blocks ∷ flagOf (p .span .«newline_before») ∷ flagOf (p .span .«newline_after») ∷ p .span .arguments ∷ p .word ∷ flagOf (p .«top_level») ∷ []
-
-unfoldable pub putPrevious : List ℕ → ℕ → Previous → List ℕ
-putPrevious m k p = sets m (256 + 7 * k) (wordsOf p)
-
--- the entry of the words from index a
-unfoldable pub entryAt : List ℕ → ℕ → Previous
-entryAt m a =
-    record {
-      span = record {
-        «full_span» = getD m a 0;
-        blocks = getD m (a + 1) 0;
-        «newline_before» = not (eqb (getD m (a + 2) 0) 0);
-        «newline_after» = not (eqb (getD m (a + 3) 0) 0);
-        arguments = getD m (a + 4) 0;
-      };
-      word = getD m (a + 5) 0;
-      «top_level» = not (eqb (getD m (a + 6) 0) 0);
-    }
-
-abbrev pub previousAt : List ℕ → ℕ → Previous
-previousAt m k = entryAt m (256 + 7 * k)
 
 -- ---- the memory: kinds from 0, spans from 128, previous entries from 256, and what is not the stacks' from 1159
 
@@ -74,12 +44,6 @@ typesOf c m = stacks.typesOf (stacksOf c m)
 
 unfoldable pub lastOf : Counts → List ℕ → Previous
 lastOf c m = stacks.lastOf (stacksOf c m)
-
--- a flag is 0 or 1
-pub record Flags (m : List ℕ) (a : ℕ) : Type 0 where
-  pub before : getD m (a + 2) 0 ≤ 1
-  pub after : getD m (a + 3) 0 ≤ 1
-  pub top : getD m (a + 6) 0 ≤ 1
 
 pub record Sound (m : List ℕ) : Type 0 where
   pub long : length m ≡ 1287

@@ -11,7 +11,8 @@ use Rattle.rules.specs.declared.SpanInfo.{SpanInfo}
 use Rattle.rules.specs.Base.{if_then_else_}
 use Rattle.rules.specs.Indentation.{Indentation, PreviousTokens, Closed}
 use Rattle.stacks.specs.Stack.{stack, Kept}
-use Rattle.indentation.specs.declared.Previous.{Previous}
+use Rattle.previous.specs.declared.Previous.{Previous}
+use Rattle.previous.specs.Of.{previousOf, noPrevious, Told}
 
 -- each stack's array and the number of its entries
 pub record Stacks : Type 0 where
@@ -37,29 +38,6 @@ weightOf zero = 1
 weightOf (suc zero) = 1
 weightOf (suc (suc k)) = 0
 
-unfoldable pub wordOf : ℕ → Option ℕ
-wordOf zero = none
-wordOf (suc n) = some n
-
-unfoldable pub topOf : Bool → SpanInfo → Option SpanInfo
-topOf true sp = some sp
-topOf false sp = none
-
-unfoldable pub previousOf : Previous → PreviousTokens ℕ
-previousOf p = record { topLevelReserved = topOf (p .«top_level») (p .span); reserved = wordOf (p .word) }
-
-abbrev pub noSpan : SpanInfo
-noSpan = record { «full_span» = 0; blocks = 0; «newline_before» = false; «newline_after» = false; arguments = 0 }
-
-abbrev pub noPrevious : Previous
-noPrevious = record { span = noSpan; word = 0; «top_level» = false }
-
-abbrev pub reservedAfter : Previous → ℕ → Previous
-reservedAfter p token = record { span = p .span; word = token + 1; «top_level» = p .«top_level» }
-
-abbrev pub topLevelAfter : ℕ → SpanInfo → Previous
-topLevelAfter word sp = record { span = sp; word = word; «top_level» = true }
-
 unfoldable pub typesOf : Stacks → List IndentType
 typesOf i = map typeOf (stack 0 (i .nkinds) (i .kinds))
 
@@ -81,10 +59,6 @@ tops [] = 0
 tops (Top ∷ ts) = suc (tops ts)
 tops (Block ∷ ts) = tops ts
 tops (FoldedBlock ∷ ts) = tops ts
-
--- a span stands only where there is a top-level word
-abbrev pub Told : Previous → Type 0
-Told p = p .«top_level» ≡ false → p .span ≡ noSpan
 
 -- the invariant: each stack is kept, a span for each top-level entry, at most one previous word more than entries
 pub record Clean (i : Stacks) : Type 0 where

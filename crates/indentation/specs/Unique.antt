@@ -18,8 +18,10 @@ use Rattle.stacks.specs.Laws.{same-count, same-array, lt-or-le}
 use Rattle.stacks.specs.Table.{getD-table}
 use Rattle.indentation.specs.declared.Indentation.{Indentation as Counts}
 use Rattle.indentation.specs.Of as of
-use Rattle.indentation.specs.declared.Previous.{Previous}
-use Rattle.indentation.specs.Stacks.{Stacks as Code, typeOf, wordOf, topOf, previousOf, noSpan, noPrevious, typesOf, indentationOf, Told, Stands}
+use Rattle.previous.specs.Of as previous
+use Rattle.previous.specs.declared.Previous.{Previous}
+use Rattle.indentation.specs.Stacks.{Stacks as Code, typeOf, typesOf, indentationOf, Stands}
+use Rattle.previous.specs.Of.{Told, noPrevious, noSpan, previousOf, topOf, wordOf}
 
 no-way : {A : Type 0} → _≡_ {A = ℕ} 0 1 → A
 no-way e = absurd (omega arith)
@@ -107,9 +109,9 @@ one-flag zero (suc y) p q e = not-told (e ∙ rw (ne-eqb (suc y) 0 (λ h. omega 
 one-flag (suc x) zero p q e = not-told (sym e ∙ rw (ne-eqb (suc x) 0 (λ h. omega arith)))
 one-flag (suc x) (suc y) p q e = omega arith
 
-module _ (q p : List ℕ) (a : ℕ) (f : of.Flags q a) (g : of.Flags p a) (e : of.entryAt q a ≡ of.entryAt p a) where
+module _ (q p : List ℕ) (a : ℕ) (f : previous.Flags q a) (g : previous.Flags p a) (e : previous.entryAt q a ≡ previous.entryAt p a) where
   one-words : (i : ℕ) → i < 7 → getD q (a + i) 0 ≡ getD p (a + i) 0
-  unfolding of.entryAt
+  unfolding previous.entryAt
   one-words zero h = let z : a + 0 ≡ a = omega arith in rw z (ap (λ (v : Previous). v .span .«full_span») e)
   one-words (suc zero) h = ap (λ (v : Previous). v .span .blocks) e
   one-words (suc (suc zero)) h = one-flag _ _ (f .before) (g .before) (ap (λ (v : Previous). v .span .«newline_before») e)
@@ -143,9 +145,9 @@ module _ (w : Indentation ℕ) (m : List ℕ) (r s : Counts) (q p : List ℕ) (a
   unfolding of.spansIn
   one-span-word k h = sym (getD-table 128 k (λ j. getD q (128 + j) 0) 0 h) ∙ ap (λ (c : Code). getD (c .spans) k 0) same ∙ getD-table 128 k (λ j. getD p (128 + j) 0) 0 h
 
-  one-entry : (k : ℕ) → k < 129 → of.previousAt q k ≡ of.previousAt p k
+  one-entry : (k : ℕ) → k < 129 → previous.previousAt q k ≡ previous.previousAt p k
   unfolding of.previousIn
-  one-entry k h = sym (getD-table 129 k (of.previousAt q) noPrevious h) ∙ ap (λ (c : Code). getD (c .previous) k noPrevious) same ∙ getD-table 129 k (of.previousAt p) noPrevious h
+  one-entry k h = sym (getD-table 129 k (previous.previousAt q) noPrevious h) ∙ ap (λ (c : Code). getD (c .previous) k noPrevious) same ∙ getD-table 129 k (previous.previousAt p) noPrevious h
 
   one-previous-word : (k : ℕ) → 256 ≤ k → k < 1159 → getD q k 0 ≡ getD p k 0
   one-previous-word k l h =

@@ -4,17 +4,15 @@ ghost use mathlib.Core.Bool.{Bool, true, false};
 ghost use Prim.Native.Nat.{ℕ, _+_, _-_, _≤_, _<_};
 ghost use Rattle.rules.specs.Indentation.{noIndentation, indentLevel, increaseTopLevel, increaseBlockLevel, decreaseTopLevel, decreaseBlockLevel, setPreviousReserved, setPreviousTopLevel, previousReserved, previousTopLevelReserved, unfolded, span as spanOf};
 ghost use lib.Dec.{leb};
-ghost use lib.ListN.{length, getD};
-ghost use Rattle.indentation.specs.Stacks.{noPrevious, endsTop, kindFor, weightOf, reservedAfter, topLevelAfter};
-ghost use Rattle.indentation.specs.Of.{noCounts, flagOf, previousAt, putPrevious, indentationOf, typesOf, lastOf, wordIn, spanIn, Clean, Stands, StandsClosed};
+ghost use Rattle.indentation.specs.Stacks.{endsTop, kindFor, weightOf};
+ghost use Rattle.indentation.specs.Of.{noCounts, indentationOf, typesOf, lastOf, wordIn, spanIn, Clean, Stands, StandsClosed};
+use previous::Previous;
+use previous::no_previous;
+use previous::previous_at;
+use previous::put_previous;
+use previous::reserved_after;
+use previous::top_level_after;
 use rules::SpanInfo;
-
-// The last top-level word's span, and the last reserved word: its token's number and one more, 0 where there is none.
-pub struct Previous {
-    pub span: SpanInfo,
-    pub word: u32,
-    pub top_level: bool,
-}
 
 // How many entries each stack has. The entries stand in a lent memory: kinds (0 Top, 1 Block, 2 FoldedBlock) from 0, spans from 128,
 // previous words from 256, seven words each. Entries above the counts are zero.
@@ -42,23 +40,6 @@ pub struct Closed {
     pub left: Indentation,
 }
 
-fn no_previous() -> Previous
-    ensures { λ r. ⌜ r ≡ noPrevious ⌝ }
-{
-    let span = SpanInfo {
-        full_span: 0,
-        blocks: 0,
-        newline_before: false,
-        newline_after: false,
-        arguments: 0,
-    };
-    Previous {
-        span,
-        word: 0,
-        top_level: false,
-    }
-}
-
 fn block_kind(folded: bool) -> u32
     ensures { λ r. ⌜ r ≡ kindFor folded ⌝ }
 {
@@ -77,68 +58,6 @@ fn weight(kind: u32) -> usize
     ensures { λ r. ⌜ (r ≡ weightOf kind) × (r ≤ 1) ⌝ }
 {
     if kind < 2 { 1 } else { 0 }
-}
-
-fn flag(b: bool) -> u32
-    ensures { λ r. ⌜ r ≡ flagOf b ⌝ }
-{
-    if b { 1 } else { 0 }
-}
-
-fn previous_at(stacks: &[u32], k: usize) -> Previous
-    requires { ⌜ (length (now stacks) ≡ 1287) × (k < 129) ⌝ }
-    ensures { λ r. ⌜ r ≡ previousAt (now (stacks .entry)) k ⌝ }
-{
-    let at = 256 + 7 * k;
-    let span = SpanInfo {
-        full_span: stacks[at],
-        blocks: stacks[at + 1],
-        newline_before: stacks[at + 2] != 0,
-        newline_after: stacks[at + 3] != 0,
-        arguments: stacks[at + 4],
-    };
-    Previous {
-        span,
-        word: stacks[at + 5],
-        top_level: stacks[at + 6] != 0,
-    }
-}
-
-fn put_previous(stacks: &mut [u32], k: usize, p: Previous)
-    requires { ⌜ (length (now stacks) ≡ 1287) × (k < 129) ⌝ }
-    ensures { λ r. ⌜ now (stacks .exit) ≡ putPrevious (now (stacks .entry)) k p ⌝ }
-{
-    let at = 256 + 7 * k;
-    let span = p.span;
-    stacks[at] = span.full_span;
-    stacks[at + 1] = span.blocks;
-    stacks[at + 2] = flag(span.newline_before);
-    stacks[at + 3] = flag(span.newline_after);
-    stacks[at + 4] = span.arguments;
-    stacks[at + 5] = p.word;
-    stacks[at + 6] = flag(p.top_level);
-}
-
-fn reserved_after(last: Previous, token: u32) -> Previous
-    requires { ⌜ token < 65535 ⌝ }
-    ensures { λ r. ⌜ r ≡ reservedAfter last token ⌝ }
-{
-    let span = last.span;
-    Previous {
-        span,
-        word: token + 1,
-        top_level: last.top_level,
-    }
-}
-
-fn top_level_after(word: u32, span: SpanInfo) -> Previous
-    ensures { λ r. ⌜ r ≡ topLevelAfter word span ⌝ }
-{
-    Previous {
-        span,
-        word,
-        top_level: true,
-    }
 }
 
 impl Indentation {

@@ -36,19 +36,23 @@ module _ (d : List ℕ) (len i : ℕ) (h : len ≤ length d) where
         let k : lineFeeds (drop i (take len d)) ≡ lineFeeds (drop (i + 1) (take len d)) = rw (take-next d len i h c, ne-eqb (getD d i 0) 10 z) in
         omega arith
 
-    pub by-width-fed : (at best m : ℕ) → getD d i 0 ≡ 10 → m ≡ max at best → widthFrom at best (drop i (take len d)) ≡ width (take len d)
-        → widthFrom 0 m (drop (i + 1) (take len d)) ≡ width (take len d)
-    by-width-fed at best m z f e =
+    pub by-width-fed : (from best m : ℕ) → getD d i 0 ≡ 10 → m ≡ max (i - from) best → widthFrom (i - from) best (drop i (take len d)) ≡ width (take len d)
+        → widthFrom (i + 1 - (i + 1)) m (drop (i + 1) (take len d)) ≡ width (take len d)
+    by-width-fed from best m z f e =
+        let at : ℕ = i - from in
+        let o : i + 1 - (i + 1) ≡ 0 = omega arith in
         let k : widthFrom at best (drop i (take len d)) ≡ widthFrom 0 (max at best) (drop (i + 1) (take len d)) =
         ap (widthFrom at best) (take-next d len i h c) ∙ width-by at best (getD d i 0) (drop (i + 1) (take len d)) true (eq-eqb (getD d i 0) 10 z) in
-        ap (λ (a : ℕ). widthFrom 0 a (drop (i + 1) (take len d))) f ∙ sym k ∙ e
+        rw o (ap (λ (a : ℕ). widthFrom 0 a (drop (i + 1) (take len d))) f ∙ sym k ∙ e)
 
-    pub by-width-on : (at best : ℕ) → (getD d i 0 ≡ 10 → ⊥) → widthFrom at best (drop i (take len d)) ≡ width (take len d)
-        → widthFrom (at + 1) best (drop (i + 1) (take len d)) ≡ width (take len d)
-    by-width-on at best z e =
+    pub by-width-on : (from best : ℕ) → from ≤ i → (getD d i 0 ≡ 10 → ⊥) → widthFrom (i - from) best (drop i (take len d)) ≡ width (take len d)
+        → widthFrom (i + 1 - from) best (drop (i + 1) (take len d)) ≡ width (take len d)
+    by-width-on from best g z e =
+        let at : ℕ = i - from in
+        let o : i + 1 - from ≡ suc at = omega arith in
         let k : widthFrom at best (drop i (take len d)) ≡ widthFrom (suc at) best (drop (i + 1) (take len d)) =
         ap (widthFrom at best) (take-next d len i h c) ∙ width-by at best (getD d i 0) (drop (i + 1) (take len d)) false (ne-eqb (getD d i 0) 10 z) in
-        ap (λ (a : ℕ). widthFrom a best (drop (i + 1) (take len d))) (add-one at) ∙ sym k ∙ e
+        rw o (sym k ∙ e)
 
 size : ℕ → ℕ → Size
 size n m = record { lines = n; width = m }

@@ -1,5 +1,5 @@
 -- Laws of the trim at the start: the text moves down. Assumes nothing.
-use mathlib.Core.Path.{_≡_, sym, ap, _∙_}
+use mathlib.Core.Path.{_≡_, refl, sym, ap, _∙_}
 use mathlib.Core.Logic.{⊎-elim}
 use mathlib.Core.Bool.{Bool, true, false}
 use mathlib.Core.List.{List, [], _∷_, _++_}
@@ -126,3 +126,13 @@ module _ (t : Code) (d : List ℕ) (h : Held t d) (from : ℕ) (k : from ≤ t .
   pub by-down : (d₁ d₂ : List ℕ) → d₁ ≡ put d 0 (part d from (t .len - from)) → d₂ ≡ put d₁ (t .len - from) (replicate from 0)
       → Laid (length d) (change (trimStart isWhite) (textOf t d)) (record { len = t .len - from; fault = t .fault }) d₂
   by-down d₁ d₂ e g = rw (g, e) down
+
+  -- there is none
+  pub by-stays : from ≡ 0 → Laid (length d) (change (trimStart isWhite) (textOf t d)) t d
+  by-stays z =
+      let o : take (t .len) d ≡ trimStart isWhite (take (t .len) d) = rw z at f in
+      laid _ _ _ _ refl h
+      (⊎-elim
+      (λ (c : t .fault ≡ 0). text-fits t d c ∙ ap fits o ∙ sym (rw (text-fits t d c)))
+      (λ (c : t .fault ≡ 0 → ⊥). text-refused t d c ∙ sym (rw (text-refused t d c)))
+      (zero-or (t .fault)))

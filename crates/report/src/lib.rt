@@ -58,6 +58,9 @@ fn trim_start(text: &mut [u8], t: Text) -> Text
 {
     let len = t.len;
     let from = white_start(text, len);
+    if from == 0 {
+        return t;
+    }
     let left = len - from;
     move_down(text, from, left);
     fill(text, left, 0, from);
@@ -83,23 +86,22 @@ pub fn lines_width(text: &[u8], len: usize) -> Size
         return Size { lines: 0, width: 0 };
     }
     let mut lines = 1;
-    let mut at = 0;
     let mut best = 0;
+    let mut from = 0;
     let mut i = 0;
     while i < len {
-        let b = text[i];
-        i += 1;
-        if b != 10 {
-            at += 1;
+        if text[i] != 10 {
+            i += 1;
             continue;
         }
         lines += 1;
-        best = larger(at, best);
-        at = 0;
+        best = larger(i - from, best);
+        i += 1;
+        from = i;
     }
     Size {
         lines,
-        width: larger(at, best),
+        width: larger(i - from, best),
     }
 }
 

@@ -15,180 +15,203 @@ use Rattle.top_level.proofs.format_top_level_reserved_word.Reads as format-top-
 use Rattle.top_level.proofs.format_top_level_reserved_word_no_indent.Reads as format-top-level-reserved-word-no-indent-reads
 use Rattle.values.proofs.format_by_value.Reads as format-by-value-reads
 use Rattle.values.proofs.format_placeholder.Reads as format-placeholder-reads
-use Rattle.formatter.proofs.Arms.{by-white, by-line-comment, by-block-comment, by-top-level, by-no-indent, by-newline-after, by-newline, by-reserved, by-opening, by-closing, by-placeholder, by-type-specifier, by-string, by-operator, by-number, by-word, by-join}
+use denote.Ref.{now}
+use Rattle.formatter.proofs.Arms.{by-white, by-line-comment, by-block-comment, by-top-level, by-no-indent, by-newline-after, by-newline, by-reserved, by-opening, by-closing, by-placeholder, by-type-specifier, by-rest}
 
+-- src/lib.rt:42:34
 enum-told : tie.Need-enum-told
 enum-told c = search needs
 
+-- src/lib.rt:43:65
 enum-told-2 : tie.Need-enum-told-2
 enum-told-2 c = search needs
 
+-- src/lib.rt:43:35
 format-line-comment-requires : tie.Need-format-line-comment-requires
 format-line-comment-requires c κs = search needs
 
+-- src/lib.rt:44:67
 enum-told-3 : tie.Need-enum-told-3
 enum-told-3 c = search needs
 
+-- src/lib.rt:44:36
 format-block-comment-requires : tie.Need-format-block-comment-requires
 format-block-comment-requires c κs = search needs
 
+-- src/lib.rt:46:13
 enum-told-4 : tie.Need-enum-told-4
 enum-told-4 c = search needs
 
+-- src/lib.rt:45:40
 format-top-level-reserved-word-requires : tie.Need-format-top-level-reserved-word-requires
 format-top-level-reserved-word-requires c κs = search needs
 
+-- src/lib.rt:54:65
 enum-told-5 : tie.Need-enum-told-5
 enum-told-5 c = search needs
 
+-- src/lib.rt:54:13
 format-top-level-reserved-word-no-indent-requires :
     tie.Need-format-top-level-reserved-word-no-indent-requires
 format-top-level-reserved-word-no-indent-requires c κs = search needs
 
+-- src/lib.rt:57:59
 enum-told-6 : tie.Need-enum-told-6
 enum-told-6 c = search needs
 
+-- src/lib.rt:57:13
 format-newline-after-reserved-word-requires : tie.Need-format-newline-after-reserved-word-requires
 format-newline-after-reserved-word-requires c κs = search needs
 
+-- src/lib.rt:60:13
 enum-told-7 : tie.Need-enum-told-7
 enum-told-7 c = search needs
 
+-- src/lib.rt:59:39
 format-newline-reserved-word-requires : tie.Need-format-newline-reserved-word-requires
 format-newline-reserved-word-requires c κs = search needs
 
+-- src/lib.rt:67:58
 enum-told-8 : tie.Need-enum-told-8
 enum-told-8 c = search needs
 
+-- src/lib.rt:67:32
 format-reserved-requires : tie.Need-format-reserved-requires
 format-reserved-requires c κs = search needs
 
+-- src/lib.rt:68:70
 enum-told-9 : tie.Need-enum-told-9
 enum-told-9 c = search needs
 
+-- src/lib.rt:68:33
 format-opening-parentheses-requires : tie.Need-format-opening-parentheses-requires
 format-opening-parentheses-requires c κs = search needs
 
+-- src/lib.rt:70:13
 enum-told-10 : tie.Need-enum-told-10
 enum-told-10 c = search needs
 
+-- src/lib.rt:69:34
 format-closing-parentheses-requires : tie.Need-format-closing-parentheses-requires
 format-closing-parentheses-requires c κs = search needs
 
+-- src/lib.rt:77:62
 enum-told-11 : tie.Need-enum-told-11
 enum-told-11 c = search needs
 
+-- src/lib.rt:77:35
 format-placeholder-requires : tie.Need-format-placeholder-requires
 format-placeholder-requires c κs = search needs
 
+-- src/lib.rt:78:69
 enum-told-12 : tie.Need-enum-told-12
 enum-told-12 c = search needs
 
+-- src/lib.rt:78:37
 format-type-specifier-requires : tie.Need-format-type-specifier-requires
 format-type-specifier-requires c κs = search needs
 
-enum-told-13 : tie.Need-enum-told-13
-enum-told-13 c = search needs
-
+-- src/lib.rt:79:14
 format-by-value-requires : tie.Need-format-by-value-requires
 format-by-value-requires c κs = search needs
 
-enum-told-14 : tie.Need-enum-told-14
-enum-told-14 c = search needs
-
-format-by-value-requires-2 : tie.Need-format-by-value-requires-2
-format-by-value-requires-2 c κs = search needs
-
-enum-told-15 : tie.Need-enum-told-15
-enum-told-15 c = search needs
-
-format-by-value-requires-3 : tie.Need-format-by-value-requires-3
-format-by-value-requires-3 c κs = search needs
-
-enum-told-16 : tie.Need-enum-told-16
-enum-told-16 c = search needs
-
-format-by-value-requires-4 : tie.Need-format-by-value-requires-4
-format-by-value-requires-4 c κs = search needs
-
-enum-told-17 : tie.Need-enum-told-17
-enum-told-17 c = search needs
-
-format-by-value-requires-5 : tie.Need-format-by-value-requires-5
-format-by-value-requires-5 c κs = search needs
-
+-- src/lib.rt:28:1
 returns : tie.Need-returns
 returns c = search (needs, by-white)
 
+-- src/lib.rt:28:1
 same-length : tie.Need-same-length
 same-length c = search needs
 
+-- src/lib.rt:28:1
 same-length-2 : tie.Need-same-length-2
 same-length-2 c = search needs
 
+-- src/lib.rt:28:1
 returns-2 : tie.Need-returns-2
 returns-2 c = search (needs, by-line-comment)
 
+-- src/lib.rt:28:1
 same-length-3 : tie.Need-same-length-3
 same-length-3 c = search needs
 
+-- src/lib.rt:28:1
 same-length-4 : tie.Need-same-length-4
 same-length-4 c = search needs
 
+-- src/lib.rt:28:1
 returns-3 : tie.Need-returns-3
 returns-3 c = search (needs, by-block-comment)
 
+-- src/lib.rt:28:1
 same-length-5 : tie.Need-same-length-5
 same-length-5 c = search needs
 
+-- src/lib.rt:28:1
 same-length-6 : tie.Need-same-length-6
 same-length-6 c = search needs
 
+-- src/lib.rt:28:1
 returns-4 : tie.Need-returns-4
 returns-4 c = search (needs, by-top-level)
 
+-- src/lib.rt:28:1
 same-length-7 : tie.Need-same-length-7
 same-length-7 c = search needs
 
+-- src/lib.rt:28:1
 same-length-8 : tie.Need-same-length-8
 same-length-8 c = search needs
 
+-- src/lib.rt:28:1
 returns-5 : tie.Need-returns-5
 returns-5 c = search (needs, by-no-indent)
 
+-- src/lib.rt:28:1
 same-length-9 : tie.Need-same-length-9
 same-length-9 c = search needs
 
+-- src/lib.rt:28:1
 same-length-10 : tie.Need-same-length-10
 same-length-10 c = search needs
 
+-- src/lib.rt:28:1
 returns-6 : tie.Need-returns-6
 returns-6 c = search (needs, by-newline-after)
 
+-- src/lib.rt:28:1
 same-length-11 : tie.Need-same-length-11
 same-length-11 c = search needs
 
+-- src/lib.rt:28:1
 same-length-12 : tie.Need-same-length-12
 same-length-12 c = search needs
 
+-- src/lib.rt:28:1
 returns-7 : tie.Need-returns-7
 returns-7 c = search (needs, by-newline)
 
+-- src/lib.rt:28:1
 same-length-13 : tie.Need-same-length-13
 same-length-13 c = search needs
 
+-- src/lib.rt:28:1
 same-length-14 : tie.Need-same-length-14
 same-length-14 c = search needs
 
+-- src/lib.rt:28:1
 returns-8 : tie.Need-returns-8
 returns-8 c = search (needs, by-reserved)
 
+-- src/lib.rt:28:1
 same-length-15 : tie.Need-same-length-15
 same-length-15 c = search needs
 
+-- src/lib.rt:28:1
 same-length-16 : tie.Need-same-length-16
 same-length-16 c = search needs
 
+-- src/lib.rt:28:1
 returns-9 : tie.Need-returns-9
 returns-9 c = search (needs, by-opening)
 
@@ -200,6 +223,7 @@ same-length-17 c = search needs
 same-length-18 : tie.Need-same-length-18
 same-length-18 c = search needs
 
+-- src/lib.rt:28:1
 returns-10 : tie.Need-returns-10
 returns-10 c = search (needs, by-closing)
 
@@ -211,6 +235,7 @@ same-length-19 c = search needs
 same-length-20 : tie.Need-same-length-20
 same-length-20 c = search needs
 
+-- src/lib.rt:28:1
 returns-11 : tie.Need-returns-11
 returns-11 c = search (needs, by-placeholder)
 
@@ -222,6 +247,7 @@ same-length-21 c = search needs
 same-length-22 : tie.Need-same-length-22
 same-length-22 c = search needs
 
+-- src/lib.rt:28:1
 returns-12 : tie.Need-returns-12
 returns-12 c = search (needs, by-type-specifier)
 
@@ -233,52 +259,11 @@ same-length-23 c = search needs
 same-length-24 : tie.Need-same-length-24
 same-length-24 c = search needs
 
+-- src/lib.rt:28:1
 returns-13 : tie.Need-returns-13
-returns-13 c = search (needs, by-string)
-
--- src/lib.rt:28:1
-same-length-25 : tie.Need-same-length-25
-same-length-25 c = search needs
-
--- src/lib.rt:28:1
-same-length-26 : tie.Need-same-length-26
-same-length-26 c = search needs
-
-returns-14 : tie.Need-returns-14
-returns-14 c = search (needs, by-operator)
-
--- src/lib.rt:28:1
-same-length-27 : tie.Need-same-length-27
-same-length-27 c = search needs
-
--- src/lib.rt:28:1
-same-length-28 : tie.Need-same-length-28
-same-length-28 c = search needs
-
-returns-15 : tie.Need-returns-15
-returns-15 c = search (needs, by-number)
-
--- src/lib.rt:28:1
-same-length-29 : tie.Need-same-length-29
-same-length-29 c = search needs
-
--- src/lib.rt:28:1
-same-length-30 : tie.Need-same-length-30
-same-length-30 c = search needs
-
-returns-16 : tie.Need-returns-16
-returns-16 c = search (needs, by-word)
-
--- src/lib.rt:28:1
-same-length-31 : tie.Need-same-length-31
-same-length-31 c = search needs
-
--- src/lib.rt:28:1
-same-length-32 : tie.Need-same-length-32
-same-length-32 c = search needs
-
-returns-17 : tie.Need-returns-17
-returns-17 c = search (needs, by-join)
+returns-13 c =
+    let start = c .before .before .before .before .before .before .before .before .before .before .before in
+    by-rest (now (start .args .sheet)) (start .args .x) (start .args .i) (start .args .s) _ _ (start .pre .0) (start .args .kind) (start .pre .1) _ _ _ (c .before .before .before .before .before .before .before .match .keys13) (c .before .before .before .before .format-by-value .ensures)
 
 pub format-token-spec : {M : Type 1} → statement M
 format-token-spec =
@@ -307,16 +292,7 @@ format-token-spec =
     format-placeholder-requires
     enum-told-12
     format-type-specifier-requires
-    enum-told-13
     format-by-value-requires
-    enum-told-14
-    format-by-value-requires-2
-    enum-told-15
-    format-by-value-requires-3
-    enum-told-16
-    format-by-value-requires-4
-    enum-told-17
-    format-by-value-requires-5
     returns
     same-length
     same-length-2
@@ -353,16 +329,4 @@ format-token-spec =
     returns-12
     same-length-23
     same-length-24
-    returns-13
-    same-length-25
-    same-length-26
-    returns-14
-    same-length-27
-    same-length-28
-    returns-15
-    same-length-29
-    same-length-30
-    returns-16
-    same-length-31
-    same-length-32
-    returns-17)
+    returns-13)

@@ -1,19 +1,22 @@
+use Rattle.report.proofs.lines_width.Statement.{statement}
+use Rattle.report.proofs.lines_width.Tie as tie
+use Rattle.report.proofs.lines_width.Reads as reads
+use Rattle.report.proofs.lines_width.Lts as lts
+use Rattle.report.proofs.larger.Reads as larger-reads
 use borrow.Author.Needs.{needs}
 use mathlib.Core.Path.{_≡_}
 use Prim.Native.Nat.{_+_, _-_, _≤_}
 use lib.ListN.{take, drop}
 use Rattle.rules.specs.Text.{lineFeeds, widthFrom, width}
 use Rattle.report.proofs.SizeLaws.{by-line-fed, by-line-on, by-width-fed, by-width-on, by-size, by-no-size}
-use Rattle.report.proofs.lines_width.Statement.{statement}
-use Rattle.report.proofs.lines_width.Tie as tie
 
 abbrev Inv-loop : tie.InvT-loop
-Inv-loop text len lines₀ at₀ best₀ i₀ lines at best i =
-    (i ≤ len) × (lines ≤ i + 1) × (at ≤ i) × (lines + lineFeeds (drop i (take len text)) ≡ lineFeeds (take len text) + 1)
-    × (widthFrom at best (drop i (take len text)) ≡ width (take len text))
+Inv-loop text len lines₀ best₀ from₀ i₀ lines best from i =
+    (i ≤ len) × (lines ≤ i + 1) × (from ≤ i) × (lines + lineFeeds (drop i (take len text)) ≡ lineFeeds (take len text) + 1)
+    × (widthFrom (i - from) best (drop i (take len text)) ≡ width (take len text))
 
 abbrev μ-loop : tie.MeasureT-loop
-μ-loop text len lines₀ at₀ best₀ i₀ lines at best i = len - i
+μ-loop text len lines₀ best₀ from₀ i₀ lines best from i = len - i
 
 returns : tie.Need-returns Inv-loop μ-loop
 returns c = search (needs, by-no-size)
@@ -21,14 +24,12 @@ returns c = search (needs, by-no-size)
 loop-holds : tie.Need-loop-holds Inv-loop μ-loop
 loop-holds c = search needs
 
-shared-slice-read-b : tie.Need-shared-slice-read-b Inv-loop μ-loop
-shared-slice-read-b c = search needs
+-- src/lib.rt:93:12
+shared-slice-read-if2 : tie.Need-shared-slice-read-if2 Inv-loop μ-loop
+shared-slice-read-if2 c = search needs
 
 add-i : tie.Need-add-i Inv-loop μ-loop
 add-i c = search needs
-
-add-at : tie.Need-add-at Inv-loop μ-loop
-add-at c = search needs
 
 loop-less : tie.Need-loop-less Inv-loop μ-loop
 loop-less c = search needs
@@ -39,14 +40,26 @@ loop-again c = search (needs, by-line-on, by-width-on)
 add-lines : tie.Need-add-lines Inv-loop μ-loop
 add-lines c = search needs
 
+-- src/lib.rt:98:23
+sub-larger : tie.Need-sub-larger Inv-loop μ-loop
+sub-larger c = search needs
+
 larger-requires : tie.Need-larger-requires Inv-loop μ-loop
 larger-requires c κs = search needs
+
+-- src/lib.rt:99:9
+add-i-2 : tie.Need-add-i-2 Inv-loop μ-loop
+add-i-2 c = search needs
 
 loop-less-2 : tie.Need-loop-less-2 Inv-loop μ-loop
 loop-less-2 c = search needs
 
 loop-again-2 : tie.Need-loop-again-2 Inv-loop μ-loop
 loop-again-2 c = search (needs, by-line-fed, by-width-fed)
+
+-- src/lib.rt:104:23
+sub-larger-2 : tie.Need-sub-larger-2 Inv-loop μ-loop
+sub-larger-2 c = search needs
 
 larger-requires-2 : tie.Need-larger-requires-2 Inv-loop μ-loop
 larger-requires-2 c κs = search needs
@@ -62,14 +75,16 @@ lines-width-spec =
     μ-loop
     returns
     loop-holds
-    shared-slice-read-b
+    shared-slice-read-if2
     add-i
-    add-at
     loop-less
     loop-again
     add-lines
+    sub-larger
     larger-requires
+    add-i-2
     loop-less-2
     loop-again-2
+    sub-larger-2
     larger-requires-2
     returns-2)

@@ -1,10 +1,21 @@
 use borrow.Author.Needs.{needs}
-use Rattle.report.proofs.TrimLaws.{by-down}
 use Rattle.report.proofs.trim_start.Statement.{statement}
 use Rattle.report.proofs.trim_start.Tie as tie
+use Rattle.report.proofs.trim_start.Reads as reads
+use Rattle.report.proofs.trim_start.Lts as lts
+use Rattle.report.proofs.move_down.Reads as move-down-reads
+use Rattle.report.proofs.white_start.Reads as white-start-reads
+use Rattle.text.proofs.fill.Reads as fill-reads
+use Rattle.report.proofs.TrimLaws.{by-stays, by-down}
 
 white-start-requires : tie.Need-white-start-requires
 white-start-requires c κs = search needs
+
+same-length : tie.Need-same-length
+same-length c = search needs
+
+returns : tie.Need-returns
+returns c = search (needs, by-stays)
 
 sub-left : tie.Need-sub-left
 sub-left c = search needs
@@ -15,13 +26,23 @@ move-down-requires c κs = search needs
 fill-requires : tie.Need-fill-requires
 fill-requires c κs = search needs
 
-same-length : tie.Need-same-length
-same-length c = search needs
+-- src/lib.rt:55:1
+same-length-2 : tie.Need-same-length-2
+same-length-2 c = search needs
 
-returns : tie.Need-returns
-returns c = search (needs, by-down)
+-- src/lib.rt:55:1
+returns-2 : tie.Need-returns-2
+returns-2 c = search (needs, by-down)
 
 pub trim-start-spec : {M : Type 1} → statement M
 trim-start-spec =
     tie.close
-    (tie.spec white-start-requires sub-left move-down-requires fill-requires same-length returns)
+    (tie.spec
+    white-start-requires
+    same-length
+    returns
+    sub-left
+    move-down-requires
+    fill-requires
+    same-length-2
+    returns-2)

@@ -5,12 +5,12 @@ use Rattle.indentation.proofs.Indentation.decrease_top_level.Reads as r
 use Rattle.indentation.proofs.Indentation.decrease_top_level.Lts as lts
 use Rattle.indentation.proofs.Indentation.ends_top.Reads as ends-top-reads
 use Rattle.indentation.proofs.less.Reads as less-reads
-use Rattle.indentation.proofs.no_previous.Reads as no-previous-reads
-use Rattle.indentation.proofs.put_previous.Reads as put-previous-reads
+use Rattle.previous.proofs.no_previous.Reads as no-previous-reads
+use Rattle.previous.proofs.put_previous.Reads as put-previous-reads
 use Rattle.indentation.proofs.StandLaws.{by-no-top, by-top-pops}
 use native.Mathlib.Omega.{arith}
 use mathlib.Core.Path.{_∙_}
-use Rattle.indentation.proofs.MemoryLaws.{length-put}
+use Rattle.previous.proofs.Laws.{length-put}
 use lib.ListN.{length-set}
 
 ends-top-requires : tie.Need-ends-top-requires

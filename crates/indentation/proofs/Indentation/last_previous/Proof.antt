@@ -3,8 +3,8 @@ use Rattle.indentation.proofs.Indentation.last_previous.Statement.{stat
 use Rattle.indentation.proofs.Indentation.last_previous.Tie as tie
 use Rattle.indentation.proofs.Indentation.last_previous.Reads as reads
 use Rattle.indentation.proofs.Indentation.last_previous.Lts as lts
-use Rattle.indentation.proofs.no_previous.Reads as no-previous-reads
-use Rattle.indentation.proofs.previous_at.Reads as previous-at-reads
+use Rattle.previous.proofs.no_previous.Reads as no-previous-reads
+use Rattle.previous.proofs.previous_at.Reads as previous-at-reads
 use Rattle.indentation.proofs.StandLaws.{by-last, by-last-none}
 
 no-previous-requires : tie.Need-no-previous-requires

@@ -4,12 +4,12 @@ use Rattle.indentation.proofs.Indentation.pop_block.Tie as tie
 use Rattle.indentation.proofs.Indentation.pop_block.Reads as reads
 use Rattle.indentation.proofs.Indentation.pop_block.Lts as lts
 use Rattle.indentation.proofs.less.Reads as less-reads
-use Rattle.indentation.proofs.no_previous.Reads as no-previous-reads
-use Rattle.indentation.proofs.put_previous.Reads as put-previous-reads
+use Rattle.previous.proofs.no_previous.Reads as no-previous-reads
+use Rattle.previous.proofs.put_previous.Reads as put-previous-reads
 use Rattle.indentation.proofs.StandLaws.{by-block-pops, by-none-left}
 use lib.ListN.{length-set}
 use mathlib.Core.Path.{_∙_}
-use Rattle.indentation.proofs.MemoryLaws.{length-put}
+use Rattle.previous.proofs.Laws.{length-put}
 
 returns : tie.Need-returns
 returns c = search (needs, by-none-left)

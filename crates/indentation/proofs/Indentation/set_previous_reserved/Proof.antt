@@ -3,10 +3,10 @@ use Rattle.indentation.proofs.Indentation.set_previous_reserved.Stateme
 use Rattle.indentation.proofs.Indentation.set_previous_reserved.Tie as tie
 use Rattle.indentation.proofs.Indentation.set_previous_reserved.Reads as reads
 use Rattle.indentation.proofs.Indentation.set_previous_reserved.Lts as lts
-use Rattle.indentation.proofs.no_previous.Reads as no-previous-reads
-use Rattle.indentation.proofs.previous_at.Reads as previous-at-reads
-use Rattle.indentation.proofs.put_previous.Reads as put-previous-reads
-use Rattle.indentation.proofs.reserved_after.Reads as reserved-after-reads
+use Rattle.previous.proofs.no_previous.Reads as no-previous-reads
+use Rattle.previous.proofs.previous_at.Reads as previous-at-reads
+use Rattle.previous.proofs.put_previous.Reads as put-previous-reads
+use Rattle.previous.proofs.reserved_after.Reads as reserved-after-reads
 use Rattle.indentation.proofs.StandLaws.{by-first-reserved, by-next-reserved}
 
 no-previous-requires : tie.Need-no-previous-requires

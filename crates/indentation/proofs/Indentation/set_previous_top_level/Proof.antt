@@ -3,9 +3,9 @@ use Rattle.indentation.proofs.Indentation.set_previous_top_level.Statem
 use Rattle.indentation.proofs.Indentation.set_previous_top_level.Tie as tie
 use Rattle.indentation.proofs.Indentation.set_previous_top_level.Reads as reads
 use Rattle.indentation.proofs.Indentation.set_previous_top_level.Lts as lts
-use Rattle.indentation.proofs.previous_at.Reads as previous-at-reads
-use Rattle.indentation.proofs.put_previous.Reads as put-previous-reads
-use Rattle.indentation.proofs.top_level_after.Reads as top-level-after-reads
+use Rattle.previous.proofs.previous_at.Reads as previous-at-reads
+use Rattle.previous.proofs.put_previous.Reads as put-previous-reads
+use Rattle.previous.proofs.top_level_after.Reads as top-level-after-reads
 use Rattle.indentation.proofs.StandLaws.{by-first-top-level, by-next-top-level}
 
 add-top-level-after : tie.Need-add-top-level-after

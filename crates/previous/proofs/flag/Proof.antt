@@ -1,9 +1,9 @@
-use Rattle.indentation.proofs.flag.Statement.{statement}
-use Rattle.indentation.proofs.flag.Tie as tie
-use Rattle.indentation.proofs.flag.Reads as reads
-use Rattle.indentation.proofs.flag.Lts as lts
+use Rattle.previous.proofs.flag.Statement.{statement}
+use Rattle.previous.proofs.flag.Tie as tie
+use Rattle.previous.proofs.flag.Reads as reads
+use Rattle.previous.proofs.flag.Lts as lts
 use borrow.Author.Needs.{needs}
-use Rattle.indentation.specs.Of.{flagOf}
+use Rattle.previous.specs.Of.{flagOf}
 
 -- src/lib.rt:82:1
 returns : tie.Need-returns

@@ -1,9 +1,9 @@
 use borrow.Author.Needs.{needs}
-use Rattle.indentation.proofs.previous_at.Statement.{statement}
-use Rattle.indentation.proofs.previous_at.Tie as tie
-use Rattle.indentation.proofs.previous_at.Reads as reads
-use Rattle.indentation.proofs.previous_at.Lts as lts
-use Rattle.indentation.specs.Of.{entryAt}
+use Rattle.previous.proofs.previous_at.Statement.{statement}
+use Rattle.previous.proofs.previous_at.Tie as tie
+use Rattle.previous.proofs.previous_at.Reads as reads
+use Rattle.previous.proofs.previous_at.Lts as lts
+use Rattle.previous.specs.Of.{entryAt}
 
 -- src/lib.rt:92:20
 mul-at : tie.Need-mul-at

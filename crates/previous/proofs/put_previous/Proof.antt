@@ -1,12 +1,12 @@
 use borrow.Author.Needs.{needs}
-use Rattle.indentation.proofs.put_previous.Statement.{statement}
-use Rattle.indentation.proofs.put_previous.Tie as tie
-use Rattle.indentation.proofs.put_previous.Reads as reads
-use Rattle.indentation.proofs.put_previous.Lts as lts
-use Rattle.indentation.proofs.flag.Reads as flag-reads
+use Rattle.previous.proofs.put_previous.Statement.{statement}
+use Rattle.previous.proofs.put_previous.Tie as tie
+use Rattle.previous.proofs.put_previous.Reads as reads
+use Rattle.previous.proofs.put_previous.Lts as lts
+use Rattle.previous.proofs.flag.Reads as flag-reads
 use lib.ListN.{length-set}
 use native.Mathlib.Omega.{arith}
-use Rattle.indentation.proofs.MemoryLaws.{by-written}
+use Rattle.previous.proofs.Laws.{by-written}
 
 -- src/lib.rt:111:20
 mul-at : tie.Need-mul-at
