@@ -72,7 +72,8 @@ compare list N SEED
 compare show FILE [ROOM]
 compare starred
 compare answers N SEED FILE
-compare samples FOLDER";
+compare samples FOLDER
+compare speed SEED (built with --profile speed --features call)";
 
 fn main() -> ExitCode {
     oracle::silence_panics();

@@ -14,6 +14,7 @@ use inline_block::InlineBlock;
 use rules::Report;
 use rules::TokenKind;
 use rules::Turn;
+use stacks::MEMORY;
 use state::Context;
 use state::State;
 use state::value_of;
@@ -161,7 +162,7 @@ pub fn format(query: &mut [u8], sheet: &[u8], x: Context) -> Report
     let c = x.counts;
     let n = c.tokens;
     let mut g = begin(query);
-    let mut stacks: [u32; 1287] = [0; 1287];
+    let mut stacks: [u32; MEMORY] = [0; MEMORY];
     let mut i: usize = 0;
     while i < n {
         g = step(query, &mut stacks, g, sheet, x, i);

@@ -13,9 +13,10 @@ use previous::put_previous;
 use previous::reserved_after;
 use previous::top_level_after;
 use rules::SpanInfo;
+use stacks::LENGTHS;
+use stacks::SPANS;
 
-// How many entries each stack has. The entries stand in a lent memory: kinds (0 Top, 1 Block, 2 FoldedBlock) from 0, spans from 128,
-// previous words from 256, seven words each. Entries above the counts are zero.
+// How many entries each stack has. The entries stand in a lent memory; those above the counts are zero. Kinds: 0 Top, 1 Block, 2 FoldedBlock.
 pub struct Indentation {
     pub nkinds: usize,
     pub nspans: usize,
@@ -76,7 +77,7 @@ impl Indentation {
         ensures { λ r. ⌜ Stands noIndentation (now (stacks .entry)) r (now (stacks .exit)) ⌝ }
     {
         let mut i: usize = 0;
-        while i < 1159 {
+        while i < LENGTHS {
             stacks[i] = 0;
             i += 1;
         }
@@ -94,7 +95,7 @@ impl Indentation {
         let s = self.nspans;
         stacks[k] = 0;
         self.nkinds = k + 1;
-        stacks[128 + s] = span.full_span;
+        stacks[SPANS + s] = span.full_span;
         self.nspans = s + 1;
         self
     }
@@ -138,7 +139,7 @@ impl Indentation {
             let p = less(self.nprevious);
             stacks[k] = 0;
             self.nkinds = k;
-            stacks[128 + s] = 0;
+            stacks[SPANS + s] = 0;
             self.nspans = s;
             put_previous(stacks, p, no_previous());
             self.nprevious = p;
@@ -259,7 +260,7 @@ impl Indentation {
         if n == 0 {
             return 0;
         }
-        stacks[128 + n - 1]
+        stacks[SPANS + n - 1]
     }
 
     pub fn is_full(self) -> bool

@@ -4,8 +4,9 @@ ghost use mathlib.Core.List.{tail};
 ghost use lib.Dec.{leb, ltb};
 ghost use Rattle.rules.specs.InlineBlock.{curLen, beginIfPossible};
 ghost use Rattle.inline_block.specs.Of.{inlineBlockOf, noBlocks, Clean, Stands};
+use stacks::LENGTHS;
 
-// How many inline blocks are open. Their lengths stand in a lent memory from 1159, the innermost last; entries above the level are zero.
+// How many inline blocks are open. Their lengths stand in a lent memory, the innermost last; those above the level are zero.
 pub struct InlineBlock {
     pub level: usize,
 }
@@ -25,7 +26,7 @@ impl InlineBlock {
         let n = self.level;
         if inlined {
             if n < 128 {
-                stacks[1159 + n] = length;
+                stacks[LENGTHS + n] = length;
                 self.level = n + 1;
                 return self;
             }
@@ -41,7 +42,7 @@ impl InlineBlock {
         if n == 0 {
             return self;
         }
-        stacks[1159 + n - 1] = 0;
+        stacks[LENGTHS + n - 1] = 0;
         self.level = n - 1;
         self
     }
@@ -66,6 +67,6 @@ impl InlineBlock {
         if n == 0 {
             return 0;
         }
-        stacks[1159 + n - 1]
+        stacks[LENGTHS + n - 1]
     }
 }

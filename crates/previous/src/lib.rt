@@ -4,6 +4,7 @@ ghost use Prim.Native.Nat.{_<_};
 ghost use lib.ListN.{length};
 ghost use Rattle.previous.specs.Of.{noPrevious, reservedAfter, topLevelAfter, flagOf, previousAt, putPrevious};
 use rules::SpanInfo;
+use stacks::PREVIOUS;
 
 // The last top-level word's span, and the last reserved word: its token's number and one more, 0 where there is none.
 pub struct Previous {
@@ -35,12 +36,12 @@ fn flag(b: bool) -> u32
     if b { 1 } else { 0 }
 }
 
-// Entry k: seven words from 256 + 7 k.
+// Entry k: seven words.
 pub fn previous_at(stacks: &[u32], k: usize) -> Previous
     requires { ⌜ (length (now stacks) ≡ 1287) × (k < 129) ⌝ }
     ensures { λ r. ⌜ r ≡ previousAt (now (stacks .entry)) k ⌝ }
 {
-    let at = 256 + 7 * k;
+    let at = PREVIOUS + 7 * k;
     let span = SpanInfo {
         full_span: stacks[at],
         blocks: stacks[at + 1],
@@ -59,7 +60,7 @@ pub fn put_previous(stacks: &mut [u32], k: usize, p: Previous)
     requires { ⌜ (length (now stacks) ≡ 1287) × (k < 129) ⌝ }
     ensures { λ r. ⌜ now (stacks .exit) ≡ putPrevious (now (stacks .entry)) k p ⌝ }
 {
-    let at = 256 + 7 * k;
+    let at = PREVIOUS + 7 * k;
     let span = p.span;
     stacks[at] = span.full_span;
     stacks[at + 1] = span.blocks;
