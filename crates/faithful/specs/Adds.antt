@@ -1,22 +1,21 @@
 -- What each rule adds to the text, white bytes aside. A refusal adds nothing that is read, and nothing follows it. Assumes nothing.
-use mathlib.Core.Path.{_≡_, refl, sym, ap, _∙_}
-use mathlib.Core.Bool.{Bool, true, false, not, _&&_, _||_}
+use mathlib.Core.Path.{_≡_, refl, sym, _∙_}
+use mathlib.Core.Bool.{Bool, true, false}
 use mathlib.Core.Option.{Option, none, some}
 use mathlib.Core.List.{List, [], _∷_, _++_, append-assoc, append-nil}
 use Prim.Native.Nat.{ℕ, suc, _+_}
 use native.Mathlib.Omega.{arith}
 use lib.Dec.{eqb, leb}
-use lib.ListN.{length, replicate}
+use lib.ListN.{length}
 use Rattle.rules.specs.declared.SpanInfo.{SpanInfo}
 use Rattle.rules.specs.declared.BlockInfo.{BlockInfo}
-use Rattle.rules.specs.Base.{if_then_else_, _▹_}
+use Rattle.rules.specs.Base.{if_then_else_}
 use Rattle.rules.specs.Tokens.{Token, Here}
 use Rattle.rules.specs.Sheet.{Env}
-use Rattle.rules.specs.Text.{isBlank, isWhite, trimEnd, lastOr, Text, fits, refused, change, append, lineFeed, refuse, newLine, cutBlanks, equalizeWhitespace, indentComment}
+use Rattle.rules.specs.Text.{isBlank, isWhite, trimEnd, lastOr, Text, fits, refused, change, append, lineFeed, refuse, newLine, cutBlanks}
 use Rattle.rules.specs.Indentation.{Indentation}
-use Rattle.rules.specs.Params.{get, advances}
-use Rattle.rules.specs.State.{State, when, choose, refuseIf, trimSpacesEnd, trimAllSpacesEnd, pushStr, push, oneBlank, onText, onIndentation, onInlineBlock, onBlockLevel, onIndex, addNewLine, addNewLineInner, getIndent, increaseTopLevel}
-use Rattle.rules.specs.Formatter.{formatReservedWord, pushReserved, formatLineComment, formatTypeSpecifier, formatBlockComment, newTopLine, formatTopLevelReservedWord, formatTopLevelReservedWordNoIndent, formatNewlineAfterReservedWord, indentInlined, formatNewlineReservedWord, formatReserved, formatWithSpaces, formatWithSpaceAfter, formatWithoutSpaces, formatOpeningParentheses, formatClosingParentheses, formatPlaceholder, formatComma, formatQuerySeparator, formatByValue}
+use Rattle.rules.specs.State.{State, when, choose, refuseIf, trimSpacesEnd, trimAllSpacesEnd, pushStr, push, oneBlank, onText, onIndentation, onInlineBlock, onBlockLevel, addNewLine, addNewLineInner, getIndent, increaseTopLevel}
+use Rattle.rules.specs.Formatter.{formatReservedWord, pushReserved, formatLineComment, formatTypeSpecifier, formatBlockComment, newTopLine, formatTopLevelReservedWord, formatTopLevelReservedWordNoIndent, formatNewlineAfterReservedWord, indentInlined, formatNewlineReservedWord, formatReserved, formatWithSpaces, formatWithSpaceAfter, formatWithoutSpaces, formatOpeningParentheses, formatClosingParentheses, formatComma, formatQuerySeparator, formatByValue}
 use Rattle.faithful.specs.Due.{strip}
 use Rattle.faithful.specs.Strip.{strip-append, strip-trimEnd, blank-white, strip-equalize, strip-indentComment, strip-indent, strip-replicate}
 

@@ -1,6 +1,6 @@
 -- Demand 3: a text that the rules lay out is, without its white bytes, what is due of the tokens. Assumes nothing.
 use mathlib.Core.Path.{_≡_, refl, sym, ap, subst, _∙_}
-use mathlib.Core.Bool.{Bool, true, false, _&&_}
+use mathlib.Core.Bool.{Bool, true, false}
 use mathlib.Core.List.{List, [], _∷_, _++_, append-assoc, append-nil}
 use Prim.Native.Nat.{ℕ, suc}
 use native.Mathlib.Omega.{arith}
@@ -9,17 +9,17 @@ use Rattle.rules.specs.declared.TokenKind.{TokenKind}
 use Rattle.rules.specs.declared.TokenKind.the-variants as kind
 use Rattle.rules.specs.declared.Turn.{Turn}
 use Rattle.rules.specs.declared.Turn.the-variants as turn
-use Rattle.rules.specs.Base.{if_then_else_, _▹_}
+use Rattle.rules.specs.Base.{if_then_else_}
 use Rattle.rules.specs.Tokens.{Key, absent, named, zeroIndexed, oneIndexed, Token, Here, is}
 use Rattle.rules.specs.Sheet.{Env, QueryParams, None, Indexed, Named}
 use Rattle.rules.specs.Text.{Text, fits, refused}
 use Rattle.rules.specs.Switch.{Switch, turnOf, switchAfter, switchedOn}
 use Rattle.rules.specs.Params.{entry, get, advances, offends}
-use Rattle.rules.specs.State.{State, start, when, onIndex, refuseIf, pushStr, push}
+use Rattle.rules.specs.State.{State, start, when, onIndex}
 use Rattle.rules.specs.Formatter.{spanInfo, formatPlaceholder, formatToken, formatNoChange}
 use Rattle.rules.specs.InlineBlock.{buildInfo}
 use Rattle.rules.specs.Answer.{Answer, laid, refusal, takenAs, report, unlessRefused, finish, formatFrom, format}
-use Rattle.faithful.specs.Due.{strip, Taken, takenFrom, isLaidOut, isUnnumbered, takesNext, takers, shows, dueAs, dueFrom, due}
+use Rattle.faithful.specs.Due.{strip, Taken, takenFrom, isUnnumbered, takesNext, takers, shows, dueAs, dueFrom, due}
 use Rattle.faithful.specs.Strip.{strip-trimmed}
 use Rattle.faithful.specs.Adds
 

@@ -5,7 +5,6 @@ use mathlib.Core.Option.{Option, none, some}
 use mathlib.Core.List.{List, [], _∷_}
 use Prim.Native.Nat.{ℕ, zero, suc, _+_, _-_, _≤_, _<_}
 use native.Mathlib.Nat.{sub-zero, add-zero, add-suc}
-use native.Mathlib.Numerals.{add-one}
 use native.Mathlib.Omega.{arith}
 use lib.ListN.{length, getD, take, drop}
 use lib.Seq.{drop-cons}
@@ -15,8 +14,7 @@ use Rattle.rules.specs.declared.TokenKind.{TokenKind}
 use Rattle.rules.specs.declared.TokenKind.the-variants as kind
 use Rattle.rules.specs.declared.Turn.{Turn}
 use Rattle.rules.specs.declared.Turn.the-variants as turn
-use Rattle.rules.specs.Base.{if_then_else_}
-use Rattle.rules.specs.Switch.{Reading, inState, done, moved, readAll, answered, checkFmtOff, Switch, switchIn, turnBy, turnOf, switchAfter, switchedOn}
+use Rattle.rules.specs.Switch.{Reading, inState, done, moved, readAll, answered, checkFmtOff, switchIn, turnBy, turnOf}
 use Rattle.rules.proofs.TokenKind as kinds
 use Rattle.fmt_switch.specs.declared.Said.{Said}
 use Rattle.fmt_switch.specs.declared.Said.the-variants as said

@@ -9,11 +9,11 @@ use native.Mathlib.Nat.{add-zero, add-suc, suc-add, zero-add}
 use native.Mathlib.Numerals.{add-one, lt-of-le-of-ne}
 use native.Mathlib.Omega.{arith}
 use lib.Dec.{eqb, leb}
-use lib.ListN.{length, getD}
+use lib.ListN.{getD}
 use borrow.Author.Tests.{leb-true, eq-eqb, ne-eqb}
 use Rattle.rules.specs.Base.{if_then_else_, first}
 use Rattle.rules.specs.Sheet.{listOf}
-use Rattle.rules.specs.Switch.{Move, stay, next, answer, OnByte, _↪_, fmtTable, Reading, inState, done, movedTo, moved, movedBy as movedAs}
+use Rattle.rules.specs.Switch.{Move, stay, next, answer, OnByte, _↪_, fmtTable, inState, movedTo, moved, movedBy as movedAs}
 use Rattle.stacks.specs.Laws.{same-or}
 use Rattle.fmt_switch.specs.Of.{movedBy}
 

@@ -1,8 +1,8 @@
 // formatter.rs, `check_fmt_off` and how `format` takes a token.
 ghost use mathlib.Core.Path.{_≡_};
 ghost use mathlib.Core.Option.{none};
-ghost use mathlib.Core.Bool.{Bool, true, false, _||_};
-ghost use Prim.Native.Nat.{ℕ, _+_, _≤_, _<_};
+ghost use mathlib.Core.Bool.{true, false};
+ghost use Prim.Native.Nat.{_+_, _≤_, _<_};
 ghost use lib.ListN.{length, take, drop};
 ghost use Rattle.rules.specs.Switch.{inState, moved, checkFmtOff, turnBy, turnOf, switchAfter, switchedOn};
 ghost use Rattle.fmt_switch.specs.Of.{movedBy, isComment, saidOf, switchOf};

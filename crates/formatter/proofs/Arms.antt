@@ -11,7 +11,7 @@ use Rattle.rules.specs.declared.TokenKind.the-variants as kind
 use Rattle.rules.specs.Tokens.{Here}
 use Rattle.rules.specs.Sheet.{Env}
 use Rattle.rules.specs.State.{State}
-use Rattle.rules.specs.Formatter.{spanInfo, formatToken, formatLineComment, formatBlockComment, formatTopLevelReservedWord, formatTopLevelReservedWordNoIndent, formatNewlineAfterReservedWord, formatNewlineReservedWord, formatReserved, formatOpeningParentheses, formatClosingParentheses, formatPlaceholder, formatTypeSpecifier, formatByValue}
+use Rattle.rules.specs.Formatter.{formatToken, formatLineComment, formatBlockComment, formatTopLevelReservedWord, formatTopLevelReservedWordNoIndent, formatNewlineAfterReservedWord, formatNewlineReservedWord, formatReserved, formatOpeningParentheses, formatClosingParentheses, formatPlaceholder, formatTypeSpecifier, formatByValue}
 use Rattle.values.specs.On.{onValue, onToken}
 use Rattle.top_level.specs.Levels.{onSpan}
 use Rattle.brackets.specs.Brackets.{onBlock}

@@ -1,7 +1,7 @@
 -- The run over the tokens, step by step. Assumes nothing.
 use mathlib.Core.Path.{_≡_, refl, sym, ap, _∙_}
 use mathlib.Core.Bool.{Bool}
-use mathlib.Core.List.{List, [], _∷_, _++_}
+use mathlib.Core.List.{List, []}
 use Prim.Native.Nat.{ℕ, _+_, _-_, _*_, _≤_, _<_}
 use native.Mathlib.Omega.{arith}
 use mathlib.Core.Logic.{⊎-elim}
@@ -13,19 +13,17 @@ use Rattle.rules.specs.declared.TokenKind.{TokenKind}
 use Rattle.rules.specs.declared.Turn.{Turn}
 use Rattle.rules.specs.declared.Turn.the-variants as turn
 use Rattle.rules.specs.declared.Report.{Report}
-use Rattle.rules.specs.Text.{Text, fits, refused, change, trimmed, lines, width}
+use Rattle.rules.specs.Text.{fits, refused, change, trimmed, lines, width}
 use Rattle.rules.specs.Tokens.{Here}
-use Rattle.rules.specs.Words.{bodyAt}
-use Rattle.rules.specs.Sheet.{Env, part, tokenOf, tokensOf}
+use Rattle.rules.specs.Sheet.{Env, tokenOf}
 use Rattle.rules.specs.Indentation.{noIndentation}
 use Rattle.rules.specs.State.{State, start}
-use Rattle.rules.specs.Switch.{Switch, turnOf, switchAfter, switchedOn}
+use Rattle.rules.specs.Switch.{turnOf, switchAfter, switchedOn}
 use Rattle.rules.specs.Formatter.{formatNoChange}
-use Rattle.rules.specs.Answer.{Answer, refusal, takenAs, unlessRefused, finish, report, format, reportOf, bufferOf}
-use Rattle.text.specs.Held.{textOf, Held, codeOf, bytesOf, Laid}
+use Rattle.rules.specs.Answer.{Answer, refusal, takenAs, unlessRefused, finish, report, reportOf, bufferOf}
+use Rattle.text.specs.Held.{textOf, codeOf, bytesOf, Laid}
 use Rattle.text.specs.declared.Text.{Text as CodeText}
 use Rattle.text.proofs.HeldLaws.{text-fits, text-refused, laid-same}
-use Rattle.indentation.specs.Of.{indentationOf}
 use Rattle.indentation.specs.Of as stacks
 use Rattle.indentation.specs.declared.Indentation.{Indentation as Stacks}
 use Rattle.inline_block.specs.Of as block
@@ -38,7 +36,7 @@ use Rattle.report.specs.declared.Finished.{Finished}
 use Rattle.around.specs.Run.{runFrom, run-turn, run-end, run-all}
 use Rattle.state.specs.declared.State.{State as Code}
 use Rattle.state.specs.declared.Context.{Context}
-use Rattle.state.specs.Words.{onWords, none-words}
+use Rattle.state.specs.Words.{none-words}
 use Rattle.state.specs.Below.{none-below, below-up}
 use Rattle.state.specs.Of.{valueIn, wordOf, stateOf, Known, Steady, Ready, envIn, hereIn, Handled}
 use Rattle.state.proofs.Laws.{value-is}

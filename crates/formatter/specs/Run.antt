@@ -1,11 +1,10 @@
 -- What the steps of the run say, and the answer of a sheet in its context.
 use mathlib.Core.Path.{_≡_}
-use mathlib.Core.List.{List, []}
-use Prim.Native.Nat.{ℕ, _+_, _≤_}
+use mathlib.Core.List.{List}
+use Prim.Native.Nat.{ℕ}
 use lib.ListN.{length, replicate}
 use Rattle.rules.specs.declared.TokenKind.{TokenKind}
 use Rattle.rules.specs.Tokens.{Here}
-use Rattle.rules.specs.Words.{tokenAt}
 use Rattle.rules.specs.Sheet.{Env, tokenOf, tokensOf}
 use Rattle.rules.specs.Switch.{turnOf, switchAfter, switchedOn}
 use Rattle.rules.specs.State.{State, start}

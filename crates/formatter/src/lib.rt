@@ -1,10 +1,10 @@
 // formatter.rs, `format`: every token in turn, by the fmt switch and its kind.
 ghost use mathlib.Core.Path.{_≡_};
-ghost use Prim.Native.Nat.{_+_, _≤_, _<_};
+ghost use Prim.Native.Nat.{_+_, _<_};
 ghost use lib.ListN.{length};
 ghost use Rattle.rules.specs.State.{start};
 ghost use Rattle.rules.specs.Answer.{takenAs};
-ghost use Rattle.state.specs.Of.{Known, Ready, Handled, stateOf, Steady};
+ghost use Rattle.state.specs.Of.{Known, Ready, Handled};
 ghost use Rattle.formatter.specs.Run.{tokenRule, Begun, Stepped, answerIn, kindIn};
 ghost use Rattle.rules.specs.Answer.{reportOf, bufferOf, finish as finishOf};
 ghost use Rattle.text.specs.Held.{textOf, Held};

@@ -1,20 +1,16 @@
 -- Laws of the lent memory: what a store changes, and what it leaves. Assumes nothing.
-use mathlib.Core.Path.{_≡_, refl, sym, ap, _∙_}
+use mathlib.Core.Path.{_≡_, _∙_}
 use mathlib.Core.Logic.{⊎-elim}
-use mathlib.Core.Bool.{Bool, true, false, not}
-use mathlib.Core.List.{List, [], _∷_}
-use Prim.Native.Nat.{ℕ, zero, suc, _+_, _*_, _≤_, _<_}
+use mathlib.Core.List.{List}
+use Prim.Native.Nat.{ℕ, _+_, _*_, _≤_, _<_}
 use native.Mathlib.Omega.{arith}
-use lib.Dec.{eqb}
 use lib.ListN.{length, getD, set, length-set}
-use lib.Seq.{sets, length-sets, getD-set-same, getD-set-other}
-use Rattle.stacks.specs.Table.{table, table-same, table-set, sets-below, sets-above, sets-in}
+use lib.Seq.{length-sets, getD-set-same, getD-set-other}
+use Rattle.stacks.specs.Table.{table-same, table-set}
 use Rattle.stacks.specs.Laws.{same-or, lt-or-le}
 use Rattle.previous.specs.declared.Previous.{Previous}
 use Rattle.previous.specs.Of.{wordsOf, putPrevious, previousAt}
 use Rattle.previous.proofs.Laws.{entry-same, flags-same, entry-written, flags-written, words-other}
-use Rattle.indentation.specs.declared.Indentation.{Indentation as Counts}
-use Rattle.indentation.specs.Stacks.{Stacks}
 use Rattle.indentation.specs.Of.{kindsIn, spansIn, previousIn, Sound}
 
 -- ---- the three stacks, where the words are the same

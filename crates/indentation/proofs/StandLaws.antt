@@ -2,7 +2,7 @@
 use mathlib.Core.Path.{_≡_, refl, sym, ap, _∙_}
 use mathlib.Core.Logic.{⊎-elim}
 use mathlib.Core.Bool.{Bool, true, false}
-use mathlib.Core.Option.{Option, none, some}
+use mathlib.Core.Option.{none, some}
 use mathlib.Core.List.{List, map}
 use Prim.Native.Nat.{ℕ, _+_, _-_, _*_, _≤_, _<_}
 use native.Mathlib.Omega.{arith}
@@ -20,11 +20,11 @@ use Rattle.indentation.specs.declared.Indentation.{Indentation as Counts
 use Rattle.indentation.specs.declared.Closed.{Closed as CodeClosed}
 use Rattle.indentation.specs.Stacks as stacks
 use Rattle.stacks.specs.Stack.{stack}
-use Rattle.indentation.specs.Stacks.{Stacks, ClosedStacks, weightOf, typeOf, kindFor, endsTop}
+use Rattle.indentation.specs.Stacks.{Stacks, weightOf, typeOf, kindFor, endsTop}
 use Rattle.indentation.specs.Of.{noCounts, kindsIn, spansIn, previousIn, stacksOf, indentationOf, typesOf, lastOf, Sound, Clean, Stands, StandsClosed}
 use Rattle.indentation.proofs.Laws as laws
 use Rattle.indentation.proofs.MemoryLaws.{kinds-kind, spans-kind, previous-kind, kinds-span, spans-span, sound-set, kinds-previous, spans-previous, previous-previous, above-previous, sound-previous}
-use Rattle.previous.specs.Of.{Flags, entryAt, noPrevious, noSpan, previousAt, putPrevious, reservedAfter, topLevelAfter}
+use Rattle.previous.specs.Of.{Flags, entryAt, noPrevious, previousAt, putPrevious, reservedAfter, topLevelAfter}
 
 -- the memory q has these stacks, and the rest of m
 pub record Holds (m q k s : List ℕ) (p : List Previous) : Type 0 where

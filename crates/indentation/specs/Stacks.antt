@@ -1,15 +1,13 @@
 -- The stacks as lists of their entries, and what they stand for: words are tokens' numbers.
 use mathlib.Core.Path.{_≡_}
 use mathlib.Core.Bool.{Bool, true, false}
-use mathlib.Core.Option.{Option, none, some}
+use mathlib.Core.Option.{none}
 use mathlib.Core.List.{List, [], _∷_, map}
 use Prim.Native.Nat.{ℕ, zero, suc, _+_, _≤_}
 use lib.ListN.{getD}
 use Rattle.rules.specs.declared.IndentType.{IndentType}
 use Rattle.rules.specs.declared.IndentType.the-variants.{Top, Block, FoldedBlock}
-use Rattle.rules.specs.declared.SpanInfo.{SpanInfo}
-use Rattle.rules.specs.Base.{if_then_else_}
-use Rattle.rules.specs.Indentation.{Indentation, PreviousTokens, Closed}
+use Rattle.rules.specs.Indentation.{Indentation, Closed}
 use Rattle.stacks.specs.Stack.{stack, Kept}
 use Rattle.previous.specs.declared.Previous.{Previous}
 use Rattle.previous.specs.Of.{previousOf, noPrevious, Told}

@@ -2,7 +2,6 @@
 use mathlib.Core.Path.{_≡_, refl, sym, ap, _∙_}
 use mathlib.Core.Bool.{Bool, true, false, not}
 use mathlib.Core.Logic.{⊎-elim}
-use mathlib.Core.Option.{Option, none, some}
 use mathlib.Core.List.{List, [], _∷_, map}
 use Prim.Native.Nat.{ℕ, zero, suc, _+_, _-_, _*_, _/_, _%_, _≤_, _<_}
 use native.Mathlib.Nat.{div-add-mod', mod-lt}
@@ -13,7 +12,6 @@ use lib.Seq.{ext-getD}
 use native.Mathlib.Omega.{arith}
 use Rattle.rules.specs.declared.SpanInfo.{SpanInfo}
 use Rattle.rules.specs.Indentation.{Indentation, PreviousTokens}
-use Rattle.stacks.specs.Stack.{stack}
 use Rattle.stacks.specs.Laws.{same-count, same-array, lt-or-le}
 use Rattle.stacks.specs.Table.{getD-table}
 use Rattle.indentation.specs.declared.Indentation.{Indentation as Counts}

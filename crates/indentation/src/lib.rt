@@ -1,7 +1,7 @@
 // indentation.rs: the stacks of indent kinds, spans and previous words, in a lent memory.
 ghost use mathlib.Core.Path.{_≡_};
-ghost use mathlib.Core.Bool.{Bool, true, false};
-ghost use Prim.Native.Nat.{ℕ, _+_, _-_, _≤_, _<_};
+ghost use mathlib.Core.Bool.{false};
+ghost use Prim.Native.Nat.{_+_, _-_, _≤_, _<_};
 ghost use Rattle.rules.specs.Indentation.{noIndentation, indentLevel, increaseTopLevel, increaseBlockLevel, decreaseTopLevel, decreaseBlockLevel, setPreviousReserved, setPreviousTopLevel, previousReserved, previousTopLevelReserved, unfolded, span as spanOf};
 ghost use lib.Dec.{leb};
 ghost use Rattle.indentation.specs.Stacks.{endsTop, kindFor, weightOf};

@@ -1,18 +1,16 @@
 -- Laws of the open inline blocks. Assumes nothing.
-use mathlib.Core.Path.{_≡_, refl, sym, ap, _∙_}
-use mathlib.Core.Bool.{Bool, true, false, not, _&&_}
-use mathlib.Core.List.{List, [], _∷_, tail}
+use mathlib.Core.Path.{_≡_, refl, _∙_}
+use mathlib.Core.Bool.{Bool, true, false}
+use mathlib.Core.List.{List, [], tail}
 use Prim.Native.Nat.{ℕ, _+_, _-_, _≤_, _<_}
 use native.Mathlib.Omega.{arith}
 use lib.Dec.{leb, ltb}
-use lib.ListN.{length, getD, set, replicate, length-set}
+use lib.ListN.{length, getD, set, length-set}
 use lib.Seq.{getD-set-same, getD-set-other}
 use borrow.Author.Tests.{le-leb, lt-leb}
-use Rattle.rules.specs.Base.{if_then_else_}
 use Rattle.rules.specs.InlineBlock.{isActive, curLen, full, beginIfPossible}
-use Rattle.stacks.specs.Stack.{stack}
 use Rattle.stacks.specs.Laws.{length-stack, stack-push, stack-pop, stack-popped, kept-none, kept-push, kept-pop}
-use Rattle.stacks.specs.Table.{table, table-all, table-same, table-set, getD-table, length-table}
+use Rattle.stacks.specs.Table.{table-all, table-same, table-set, getD-table}
 use Rattle.inline_block.specs.declared.InlineBlock.{InlineBlock}
 use Rattle.inline_block.specs.Of.{lengthsIn, inlineBlockOf, noBlocks, Clean, Stands}
 

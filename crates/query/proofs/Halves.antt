@@ -11,7 +11,7 @@ use Rattle.rules.specs.declared.BlockInfo.{BlockInfo}
 use Rattle.rules.specs.declared.TokenKind.the-variants as kind
 use Rattle.rules.specs.Base.{if_then_else_, _▹_, holds, isSome}
 use Rattle.rules.specs.Bytes.{bytes}
-use Rattle.rules.specs.Tokens.{Token, Here}
+use Rattle.rules.specs.Tokens.{Here}
 use Rattle.rules.specs.Sheet.{Env}
 use Rattle.rules.specs.Text.{Text, append, cutBlanks, isLower, equalizeWhitespace}
 use Rattle.rules.specs.Indentation.{Indentation, Closed, noIndentation, indentLevel, unfolded, increaseBlockLevel, decreaseTopLevel, decreaseBlockLevel, setPreviousReserved, setPreviousTopLevel, previousTopLevelReserved, span, increaseTopLevel as increaseTop}

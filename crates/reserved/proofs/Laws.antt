@@ -17,7 +17,7 @@ use Rattle.rules.specs.Words.{bodyAt, tokenAt}
 use Rattle.rules.specs.Sheet.{part, envOf}
 use Rattle.rules.specs.State.{State}
 use Rattle.rules.specs.Indentation.{Indentation, indentLevel, increaseTopLevel, setPreviousReserved, previousTopLevelReserved, span}
-use Rattle.rules.specs.InlineBlock.{isActive, full}
+use Rattle.rules.specs.InlineBlock.{full}
 use Rattle.rules.specs.Formatter.{formatReservedWord, afterLineComment, overLimit, formatNewlineReservedWord, formatReserved}
 use Rattle.ascii.specs.Part.{part as bytes}
 use Rattle.text.specs.Held.{textOf, Laid}
@@ -28,7 +28,6 @@ use Rattle.indentation.specs.declared.TopLevel.{TopLevel}
 use Rattle.indentation.specs.declared.TopLevel.the-variants as top
 use Rattle.indentation.specs.declared.Indentation.{Indentation as Counts}
 use Rattle.indentation.proofs.StandLaws.{full-is, onward}
-use Rattle.inline_block.specs.Of.{inlineBlockOf}
 use Rattle.inline_block.proofs.Laws.{active-is}
 use Rattle.query.specs.Query
 use Rattle.query.specs.declared.Value.{Value}

@@ -1,5 +1,4 @@
 -- What a checked sheet says: options, parameters, keep words and tokens, values and names as bytes.
-use mathlib.Core.Bool.{Bool}
 use mathlib.Core.List.{List, [], _∷_}
 use Prim.Native.Nat.{ℕ, zero, suc, _+_, _-_, _*_}
 use lib.Dec.{eqb}

@@ -1,5 +1,5 @@
 -- formatter.rs, `check_fmt_off`: nine states against the bytes they move on; and how a token is taken.
-use mathlib.Core.Bool.{Bool, true, false, not, _||_}
+use mathlib.Core.Bool.{Bool, true, false, not}
 use mathlib.Core.Option.{Option, none, some}
 use mathlib.Core.List.{List, [], _∷_}
 use Prim.Native.Nat.{ℕ, suc}

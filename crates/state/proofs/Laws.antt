@@ -1,5 +1,5 @@
 -- From what a handler does to the text and to the stacks to what its rule says. Assumes nothing.
-use mathlib.Core.Path.{_≡_, refl, sym, ap, _∙_}
+use mathlib.Core.Path.{_≡_, refl, sym, _∙_}
 use mathlib.Core.Bool.{Bool}
 use mathlib.Core.List.{List}
 use Prim.Native.Nat.{ℕ, _+_, _≤_, _<_}
@@ -13,7 +13,7 @@ use Rattle.rules.specs.Indentation.{Indentation, indentLevel}
 use Rattle.ascii.specs.Part.{part as bytes}
 use Rattle.query.specs.declared.Value.{Value}
 use Rattle.rules.specs.State.{State, onText}
-use Rattle.text.specs.Held.{textOf, Held, Laid}
+use Rattle.text.specs.Held.{textOf, Laid}
 use Rattle.text.specs.declared.Text.{Text as CodeText}
 use Rattle.indentation.specs.Of.{indentationOf, Stands}
 use Rattle.indentation.specs.declared.Indentation.{Indentation as Counts}
@@ -25,7 +25,7 @@ use Rattle.state.specs.declared.State.{State as Code}
 use Rattle.state.specs.declared.Context.{Context}
 use Rattle.state.specs.Words.{onWords}
 use Rattle.state.specs.Below.{Below, below-up}
-use Rattle.state.specs.Of.{valueIn, wordOf, stateOf, withText, withIndentation, Steady, Known, Ready, envIn, hereIn, Handled}
+use Rattle.state.specs.Of.{valueIn, wordOf, stateOf, withText, withIndentation, Known, Ready, envIn, hereIn, Handled}
 
 module _ (s : List ℕ) (x : Context) (i : ℕ) (f : Env → Here → State → State) (st : Code) (m d : List ℕ) (ready : Ready s x i st m d) where
   abbrev ruled : State

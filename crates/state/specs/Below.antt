@@ -1,5 +1,4 @@
 -- The previous words are tokens already taken: their numbers stay below a bound. Assumes nothing.
-use mathlib.Core.Path.{_≡_, refl}
 use mathlib.Core.Bool.{Bool, true, false}
 use mathlib.Core.Option.{Option, none, some}
 use mathlib.Core.List.{List, [], _∷_, tail}

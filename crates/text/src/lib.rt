@@ -6,7 +6,7 @@ use ascii::is_white;
 use rules::Indent;
 ghost use mathlib.Core.Path.{_≡_};
 ghost use Prim.Native.Nat.{_+_, _-_, _≤_, _<_};
-ghost use mathlib.Core.List.{_++_, _∷_, []};
+ghost use mathlib.Core.List.{_∷_, []};
 ghost use lib.ListN.{length, take, replicate};
 ghost use lib.Dec.{eqb};
 ghost use Rattle.rules.specs.Text.{trimEnd, lastOr, indentOf, change, append, lineFeed, fits, refuse as refusedWith, cutBlanks, cutWhite, newLine};

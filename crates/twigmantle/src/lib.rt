@@ -1,7 +1,6 @@
 // What the desk's host calls: any bytes, any buffer.
 ghost use mathlib.Core.Path.{_≡_};
 ghost use lib.ListN.{length};
-ghost use Rattle.rules.specs.Words.{bodyAt};
 ghost use Rattle.rules.specs.Sheet.{envOf, tokensOf};
 ghost use Rattle.rules.specs.Answer.{refusal, format, reportOf, bufferOf, reported, bufferAfter};
 ghost use Rattle.records.specs.Sheeted.{Sheeted};

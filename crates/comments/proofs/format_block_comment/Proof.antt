@@ -1,12 +1,6 @@
 use borrow.Author.Needs.{needs}
 use Rattle.comments.proofs.format_block_comment.Statement.{statement}
 use Rattle.comments.proofs.format_block_comment.Tie as tie
-use Rattle.comments.proofs.format_block_comment.Reads as reads
-use Rattle.comments.proofs.format_block_comment.Lts as lts
-use Rattle.indentation.proofs.Indentation.indent_level.Reads as indent-level-reads
-use Rattle.query.proofs.format_block_comment.Reads as format-block-comment-reads
-use Rattle.state.proofs.State.with_text.Reads as with-text-reads
-use Rattle.state.proofs.value_of.Reads as value-of-reads
 use denote.Ref.{now}
 use Rattle.state.proofs.Laws.{value-inside}
 use Rattle.comments.proofs.Laws.{by-block-comment}

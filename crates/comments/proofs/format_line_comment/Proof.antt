@@ -1,14 +1,6 @@
 use borrow.Author.Needs.{needs}
 use Rattle.comments.proofs.format_line_comment.Statement.{statement}
 use Rattle.comments.proofs.format_line_comment.Tie as tie
-use Rattle.comments.proofs.format_line_comment.Reads as reads
-use Rattle.comments.proofs.format_line_comment.Lts as lts
-use Rattle.around.proofs.two_after_comma.Reads as two-after-comma-reads
-use Rattle.comments.proofs.breaks_before_comment.Reads as breaks-before-comment-reads
-use Rattle.indentation.proofs.Indentation.indent_level.Reads as indent-level-reads
-use Rattle.query.proofs.format_line_comment.Reads as format-line-comment-reads
-use Rattle.state.proofs.State.with_text.Reads as with-text-reads
-use Rattle.state.proofs.value_of.Reads as value-of-reads
 use denote.Ref.{now}
 use Rattle.state.proofs.Laws.{value-inside}
 use Rattle.state.proofs.Laws.{known-readable}

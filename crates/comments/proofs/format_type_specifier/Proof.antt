@@ -1,12 +1,6 @@
 use borrow.Author.Needs.{needs}
 use Rattle.comments.proofs.format_type_specifier.Statement.{statement}
 use Rattle.comments.proofs.format_type_specifier.Tie as tie
-use Rattle.comments.proofs.format_type_specifier.Reads as reads
-use Rattle.comments.proofs.format_type_specifier.Lts as lts
-use Rattle.around.proofs.before_reserved_word.Reads as before-reserved-word-reads
-use Rattle.query.proofs.format_type_specifier.Reads as format-type-specifier-reads
-use Rattle.state.proofs.State.with_text.Reads as with-text-reads
-use Rattle.state.proofs.value_of.Reads as value-of-reads
 use denote.Ref.{now}
 use Rattle.state.proofs.Laws.{value-inside}
 use Rattle.state.proofs.Laws.{known-readable}

@@ -1,12 +1,6 @@
 use borrow.Author.Needs.{needs}
 use Rattle.formatter.proofs.begin.Statement.{statement}
 use Rattle.formatter.proofs.begin.Tie as tie
-use Rattle.formatter.proofs.begin.Reads as reads
-use Rattle.formatter.proofs.begin.Lts as lts
-use Rattle.fmt_switch.proofs.Switch.new.Reads as Switch-new-reads
-use Rattle.indentation.proofs.Indentation.new.Reads as Indentation-new-reads
-use Rattle.inline_block.proofs.InlineBlock.new.Reads as InlineBlock-new-reads
-use Rattle.text.proofs.begin.Reads as begin-reads
 use Rattle.formatter.proofs.Laws.{by-begun}
 
 begin-requires : tie.Need-begin-requires

@@ -1,10 +1,5 @@
 use Rattle.formatter.proofs.format.Statement.{statement}
 use Rattle.formatter.proofs.format.Tie as tie
-use Rattle.formatter.proofs.format.Reads as reads
-use Rattle.formatter.proofs.format.Lts as lts
-use Rattle.formatter.proofs.begin.Reads as begin-reads
-use Rattle.formatter.proofs.finish.Reads as finish-reads
-use Rattle.formatter.proofs.step.Reads as step-reads
 use mathlib.Core.List.{[]}
 use denote.Ref.{now}
 use borrow.Author.Needs.{needs}
@@ -28,7 +23,6 @@ loop-holds : tie.Need-loop-holds Inv-loop μ-loop
 unfolding noStacks
 loop-holds c = search (needs, run-starts)
 
--- src/lib.rt:171:25
 slice-aggregate-step : tie.Need-slice-aggregate-step Inv-loop μ-loop
 slice-aggregate-step c = search needs
 

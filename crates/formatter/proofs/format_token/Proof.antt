@@ -1,265 +1,190 @@
 use borrow.Author.Needs.{needs}
 use Rattle.formatter.proofs.format_token.Statement.{statement}
 use Rattle.formatter.proofs.format_token.Tie as tie
-use Rattle.formatter.proofs.format_token.Reads as reads
-use Rattle.formatter.proofs.format_token.Lts as lts
-use Rattle.brackets.proofs.format_closing_parentheses.Reads as format-closing-parentheses-reads
-use Rattle.brackets.proofs.format_opening_parentheses.Reads as format-opening-parentheses-reads
-use Rattle.comments.proofs.format_block_comment.Reads as format-block-comment-reads
-use Rattle.comments.proofs.format_line_comment.Reads as format-line-comment-reads
-use Rattle.comments.proofs.format_type_specifier.Reads as format-type-specifier-reads
-use Rattle.reserved.proofs.format_newline_reserved_word.Reads as format-newline-reserved-word-reads
-use Rattle.reserved.proofs.format_reserved.Reads as format-reserved-reads
-use Rattle.top_level.proofs.format_newline_after_reserved_word.Reads as format-newline-after-reserved-word-reads
-use Rattle.top_level.proofs.format_top_level_reserved_word.Reads as format-top-level-reserved-word-reads
-use Rattle.top_level.proofs.format_top_level_reserved_word_no_indent.Reads as format-top-level-reserved-word-no-indent-reads
-use Rattle.values.proofs.format_by_value.Reads as format-by-value-reads
-use Rattle.values.proofs.format_placeholder.Reads as format-placeholder-reads
 use denote.Ref.{now}
 use Rattle.formatter.proofs.Arms.{by-white, by-line-comment, by-block-comment, by-top-level, by-no-indent, by-newline-after, by-newline, by-reserved, by-opening, by-closing, by-placeholder, by-type-specifier, by-rest}
 
--- src/lib.rt:42:34
 enum-told : tie.Need-enum-told
 enum-told c = search needs
 
--- src/lib.rt:43:65
 enum-told-2 : tie.Need-enum-told-2
 enum-told-2 c = search needs
 
--- src/lib.rt:43:35
 format-line-comment-requires : tie.Need-format-line-comment-requires
 format-line-comment-requires c κs = search needs
 
--- src/lib.rt:44:67
 enum-told-3 : tie.Need-enum-told-3
 enum-told-3 c = search needs
 
--- src/lib.rt:44:36
 format-block-comment-requires : tie.Need-format-block-comment-requires
 format-block-comment-requires c κs = search needs
 
--- src/lib.rt:46:13
 enum-told-4 : tie.Need-enum-told-4
 enum-told-4 c = search needs
 
--- src/lib.rt:45:40
 format-top-level-reserved-word-requires : tie.Need-format-top-level-reserved-word-requires
 format-top-level-reserved-word-requires c κs = search needs
 
--- src/lib.rt:54:65
 enum-told-5 : tie.Need-enum-told-5
 enum-told-5 c = search needs
 
--- src/lib.rt:54:13
 format-top-level-reserved-word-no-indent-requires :
     tie.Need-format-top-level-reserved-word-no-indent-requires
 format-top-level-reserved-word-no-indent-requires c κs = search needs
 
--- src/lib.rt:57:59
 enum-told-6 : tie.Need-enum-told-6
 enum-told-6 c = search needs
 
--- src/lib.rt:57:13
 format-newline-after-reserved-word-requires : tie.Need-format-newline-after-reserved-word-requires
 format-newline-after-reserved-word-requires c κs = search needs
 
--- src/lib.rt:60:13
 enum-told-7 : tie.Need-enum-told-7
 enum-told-7 c = search needs
 
--- src/lib.rt:59:39
 format-newline-reserved-word-requires : tie.Need-format-newline-reserved-word-requires
 format-newline-reserved-word-requires c κs = search needs
 
--- src/lib.rt:67:58
 enum-told-8 : tie.Need-enum-told-8
 enum-told-8 c = search needs
 
--- src/lib.rt:67:32
 format-reserved-requires : tie.Need-format-reserved-requires
 format-reserved-requires c κs = search needs
 
--- src/lib.rt:68:70
 enum-told-9 : tie.Need-enum-told-9
 enum-told-9 c = search needs
 
--- src/lib.rt:68:33
 format-opening-parentheses-requires : tie.Need-format-opening-parentheses-requires
 format-opening-parentheses-requires c κs = search needs
 
--- src/lib.rt:70:13
 enum-told-10 : tie.Need-enum-told-10
 enum-told-10 c = search needs
 
--- src/lib.rt:69:34
 format-closing-parentheses-requires : tie.Need-format-closing-parentheses-requires
 format-closing-parentheses-requires c κs = search needs
 
--- src/lib.rt:77:62
 enum-told-11 : tie.Need-enum-told-11
 enum-told-11 c = search needs
 
--- src/lib.rt:77:35
 format-placeholder-requires : tie.Need-format-placeholder-requires
 format-placeholder-requires c κs = search needs
 
--- src/lib.rt:78:69
 enum-told-12 : tie.Need-enum-told-12
 enum-told-12 c = search needs
 
--- src/lib.rt:78:37
 format-type-specifier-requires : tie.Need-format-type-specifier-requires
 format-type-specifier-requires c κs = search needs
 
--- src/lib.rt:79:14
 format-by-value-requires : tie.Need-format-by-value-requires
 format-by-value-requires c κs = search needs
 
--- src/lib.rt:28:1
 returns : tie.Need-returns
 returns c = search (needs, by-white)
 
--- src/lib.rt:28:1
 same-length : tie.Need-same-length
 same-length c = search needs
 
--- src/lib.rt:28:1
 same-length-2 : tie.Need-same-length-2
 same-length-2 c = search needs
 
--- src/lib.rt:28:1
 returns-2 : tie.Need-returns-2
 returns-2 c = search (needs, by-line-comment)
 
--- src/lib.rt:28:1
 same-length-3 : tie.Need-same-length-3
 same-length-3 c = search needs
 
--- src/lib.rt:28:1
 same-length-4 : tie.Need-same-length-4
 same-length-4 c = search needs
 
--- src/lib.rt:28:1
 returns-3 : tie.Need-returns-3
 returns-3 c = search (needs, by-block-comment)
 
--- src/lib.rt:28:1
 same-length-5 : tie.Need-same-length-5
 same-length-5 c = search needs
 
--- src/lib.rt:28:1
 same-length-6 : tie.Need-same-length-6
 same-length-6 c = search needs
 
--- src/lib.rt:28:1
 returns-4 : tie.Need-returns-4
 returns-4 c = search (needs, by-top-level)
 
--- src/lib.rt:28:1
 same-length-7 : tie.Need-same-length-7
 same-length-7 c = search needs
 
--- src/lib.rt:28:1
 same-length-8 : tie.Need-same-length-8
 same-length-8 c = search needs
 
--- src/lib.rt:28:1
 returns-5 : tie.Need-returns-5
 returns-5 c = search (needs, by-no-indent)
 
--- src/lib.rt:28:1
 same-length-9 : tie.Need-same-length-9
 same-length-9 c = search needs
 
--- src/lib.rt:28:1
 same-length-10 : tie.Need-same-length-10
 same-length-10 c = search needs
 
--- src/lib.rt:28:1
 returns-6 : tie.Need-returns-6
 returns-6 c = search (needs, by-newline-after)
 
--- src/lib.rt:28:1
 same-length-11 : tie.Need-same-length-11
 same-length-11 c = search needs
 
--- src/lib.rt:28:1
 same-length-12 : tie.Need-same-length-12
 same-length-12 c = search needs
 
--- src/lib.rt:28:1
 returns-7 : tie.Need-returns-7
 returns-7 c = search (needs, by-newline)
 
--- src/lib.rt:28:1
 same-length-13 : tie.Need-same-length-13
 same-length-13 c = search needs
 
--- src/lib.rt:28:1
 same-length-14 : tie.Need-same-length-14
 same-length-14 c = search needs
 
--- src/lib.rt:28:1
 returns-8 : tie.Need-returns-8
 returns-8 c = search (needs, by-reserved)
 
--- src/lib.rt:28:1
 same-length-15 : tie.Need-same-length-15
 same-length-15 c = search needs
 
--- src/lib.rt:28:1
 same-length-16 : tie.Need-same-length-16
 same-length-16 c = search needs
 
--- src/lib.rt:28:1
 returns-9 : tie.Need-returns-9
 returns-9 c = search (needs, by-opening)
 
--- src/lib.rt:28:1
 same-length-17 : tie.Need-same-length-17
 same-length-17 c = search needs
 
--- src/lib.rt:28:1
 same-length-18 : tie.Need-same-length-18
 same-length-18 c = search needs
 
--- src/lib.rt:28:1
 returns-10 : tie.Need-returns-10
 returns-10 c = search (needs, by-closing)
 
--- src/lib.rt:28:1
 same-length-19 : tie.Need-same-length-19
 same-length-19 c = search needs
 
--- src/lib.rt:28:1
 same-length-20 : tie.Need-same-length-20
 same-length-20 c = search needs
 
--- src/lib.rt:28:1
 returns-11 : tie.Need-returns-11
 returns-11 c = search (needs, by-placeholder)
 
--- src/lib.rt:28:1
 same-length-21 : tie.Need-same-length-21
 same-length-21 c = search needs
 
--- src/lib.rt:28:1
 same-length-22 : tie.Need-same-length-22
 same-length-22 c = search needs
 
--- src/lib.rt:28:1
 returns-12 : tie.Need-returns-12
 returns-12 c = search (needs, by-type-specifier)
 
--- src/lib.rt:28:1
 same-length-23 : tie.Need-same-length-23
 same-length-23 c = search needs
 
--- src/lib.rt:28:1
 same-length-24 : tie.Need-same-length-24
 same-length-24 c = search needs
 
--- src/lib.rt:28:1
 returns-13 : tie.Need-returns-13
 returns-13 c =
     let start = c .before .before .before .before .before .before .before .before .before .before .before in

@@ -1,13 +1,6 @@
 use borrow.Author.Needs.{needs}
 use Rattle.formatter.proofs.step.Statement.{statement}
 use Rattle.formatter.proofs.step.Tie as tie
-use Rattle.formatter.proofs.step.Reads as reads
-use Rattle.formatter.proofs.step.Lts as lts
-use Rattle.fmt_switch.proofs.Switch.after.Reads as after-reads
-use Rattle.fmt_switch.proofs.Switch.turn_of.Reads as turn-of-reads
-use Rattle.formatter.proofs.taken_as.Reads as taken-as-reads
-use Rattle.state.proofs.value_of.Reads as value-of-reads
-use Rattle.tokens.proofs.kind_at.Reads as kind-at-reads
 use Rattle.state.proofs.Laws.{value-inside}
 use Rattle.formatter.proofs.Laws.{by-step}
 
@@ -29,7 +22,6 @@ after-requires c κs = search needs
 same-length : tie.Need-same-length
 same-length c = search needs
 
--- src/lib.rt:110:1
 same-length-2 : tie.Need-same-length-2
 same-length-2 c = search needs
 

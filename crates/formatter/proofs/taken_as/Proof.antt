@@ -1,10 +1,6 @@
 use borrow.Author.Needs.{needs}
 use Rattle.formatter.proofs.taken_as.Statement.{statement}
 use Rattle.formatter.proofs.taken_as.Tie as tie
-use Rattle.formatter.proofs.taken_as.Reads as reads
-use Rattle.formatter.proofs.taken_as.Lts as lts
-use Rattle.formatter.proofs.format_token.Reads as format-token-reads
-use Rattle.values.proofs.format_no_change.Reads as format-no-change-reads
 use Rattle.formatter.proofs.Laws.{by-dropped, by-switch, by-laid-out, by-copied}
 
 enum-told : tie.Need-enum-told
@@ -40,11 +36,9 @@ same-length-2 c = search needs
 returns-3 : tie.Need-returns-3
 returns-3 c = search (needs, by-laid-out)
 
--- src/lib.rt:88:1
 same-length-3 : tie.Need-same-length-3
 same-length-3 c = search needs
 
--- src/lib.rt:88:1
 same-length-4 : tie.Need-same-length-4
 same-length-4 c = search needs
 

@@ -1,7 +1,5 @@
 use Rattle.indentation.proofs.block_kind.Statement.{statement}
 use Rattle.indentation.proofs.block_kind.Tie as tie
-use Rattle.indentation.proofs.block_kind.Reads as reads
-use Rattle.indentation.proofs.block_kind.Lts as lts
 use Rattle.indentation.specs.Stacks.{kindFor}
 
 returns : tie.Need-returns

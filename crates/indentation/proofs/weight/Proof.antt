@@ -1,7 +1,5 @@
 use Rattle.indentation.proofs.weight.Statement.{statement}
 use Rattle.indentation.proofs.weight.Tie as tie
-use Rattle.indentation.proofs.weight.Reads as reads
-use Rattle.indentation.proofs.weight.Lts as lts
 use Rattle.indentation.proofs.Laws.{by-one, by-nought}
 use borrow.Author.Needs.{needs}
 

@@ -1,16 +1,12 @@
 use Rattle.previous.proofs.flag.Statement.{statement}
 use Rattle.previous.proofs.flag.Tie as tie
-use Rattle.previous.proofs.flag.Reads as reads
-use Rattle.previous.proofs.flag.Lts as lts
 use borrow.Author.Needs.{needs}
 use Rattle.previous.specs.Of.{flagOf}
 
--- src/lib.rt:82:1
 returns : tie.Need-returns
 unfolding flagOf
 returns c = search needs
 
--- src/lib.rt:82:1
 returns-2 : tie.Need-returns-2
 unfolding flagOf
 returns-2 c = search needs

@@ -1,118 +1,88 @@
 use borrow.Author.Needs.{needs}
 use Rattle.previous.proofs.put_previous.Statement.{statement}
 use Rattle.previous.proofs.put_previous.Tie as tie
-use Rattle.previous.proofs.put_previous.Reads as reads
-use Rattle.previous.proofs.put_previous.Lts as lts
-use Rattle.previous.proofs.flag.Reads as flag-reads
 use lib.ListN.{length-set}
 use native.Mathlib.Omega.{arith}
 use Rattle.previous.proofs.Laws.{by-written}
 
--- src/lib.rt:111:20
 mul-at : tie.Need-mul-at
 mul-at c = search needs
 
--- src/lib.rt:111:14
 add-at : tie.Need-add-at
 add-at c = search needs
 
--- src/lib.rt:113:5
 mul-stacks : tie.Need-mul-stacks
 mul-stacks c = search needs
 
--- src/lib.rt:113:5
 slice-write-stacks : tie.Need-slice-write-stacks
 slice-write-stacks c = search needs
 
--- src/lib.rt:114:12
 add-stacks : tie.Need-add-stacks
 add-stacks c = search needs
 
--- src/lib.rt:114:5
 mul-stacks-2 : tie.Need-mul-stacks-2
 mul-stacks-2 c = search needs
 
--- src/lib.rt:114:5
 slice-write-stacks-2 : tie.Need-slice-write-stacks-2
 slice-write-stacks-2 c = let h = c .before .before .pre in simp length-set (omega arith)
 
--- src/lib.rt:115:22
 flag-requires : tie.Need-flag-requires
 flag-requires c κs = search needs
 
--- src/lib.rt:115:12
 add-stacks-2 : tie.Need-add-stacks-2
 add-stacks-2 c = search needs
 
--- src/lib.rt:115:5
 mul-stacks-3 : tie.Need-mul-stacks-3
 mul-stacks-3 c = search needs
 
--- src/lib.rt:115:5
 slice-write-stacks-3 : tie.Need-slice-write-stacks-3
 slice-write-stacks-3 c = let h = c .before .before .before .pre in simp length-set (omega arith)
 
--- src/lib.rt:116:22
 flag-requires-2 : tie.Need-flag-requires-2
 flag-requires-2 c κs = search needs
 
--- src/lib.rt:116:12
 add-stacks-3 : tie.Need-add-stacks-3
 add-stacks-3 c = search needs
 
--- src/lib.rt:116:5
 mul-stacks-4 : tie.Need-mul-stacks-4
 mul-stacks-4 c = search needs
 
--- src/lib.rt:116:5
 slice-write-stacks-4 : tie.Need-slice-write-stacks-4
 slice-write-stacks-4 c = let h = c .before .before .before .before .pre in simp length-set (omega arith)
 
--- src/lib.rt:117:12
 add-stacks-4 : tie.Need-add-stacks-4
 add-stacks-4 c = search needs
 
--- src/lib.rt:117:5
 mul-stacks-5 : tie.Need-mul-stacks-5
 mul-stacks-5 c = search needs
 
--- src/lib.rt:117:5
 slice-write-stacks-5 : tie.Need-slice-write-stacks-5
 slice-write-stacks-5 c = let h = c .before .before .before .before .pre in simp length-set (omega arith)
 
--- src/lib.rt:118:12
 add-stacks-5 : tie.Need-add-stacks-5
 add-stacks-5 c = search needs
 
--- src/lib.rt:118:5
 mul-stacks-6 : tie.Need-mul-stacks-6
 mul-stacks-6 c = search needs
 
--- src/lib.rt:118:5
 slice-write-stacks-6 : tie.Need-slice-write-stacks-6
 slice-write-stacks-6 c = let h = c .before .before .before .before .pre in simp length-set (omega arith)
 
--- src/lib.rt:119:22
 flag-requires-3 : tie.Need-flag-requires-3
 flag-requires-3 c κs = search needs
 
--- src/lib.rt:119:12
 add-stacks-6 : tie.Need-add-stacks-6
 add-stacks-6 c = search needs
 
--- src/lib.rt:119:5
 mul-stacks-7 : tie.Need-mul-stacks-7
 mul-stacks-7 c = search needs
 
--- src/lib.rt:119:5
 slice-write-stacks-7 : tie.Need-slice-write-stacks-7
 slice-write-stacks-7 c = let h = c .before .before .before .before .before .pre in simp length-set (omega arith)
 
--- src/lib.rt:107:1
 same-length : tie.Need-same-length
 same-length c = search needs
 
--- src/lib.rt:107:1
 returns : tie.Need-returns
 returns c = search (needs, by-written)
 

@@ -1,8 +1,5 @@
 use Rattle.report.proofs.lines_width.Statement.{statement}
 use Rattle.report.proofs.lines_width.Tie as tie
-use Rattle.report.proofs.lines_width.Reads as reads
-use Rattle.report.proofs.lines_width.Lts as lts
-use Rattle.report.proofs.larger.Reads as larger-reads
 use borrow.Author.Needs.{needs}
 use mathlib.Core.Path.{_≡_}
 use Prim.Native.Nat.{_+_, _-_, _≤_}
@@ -24,7 +21,6 @@ returns c = search (needs, by-no-size)
 loop-holds : tie.Need-loop-holds Inv-loop μ-loop
 loop-holds c = search needs
 
--- src/lib.rt:93:12
 shared-slice-read-if2 : tie.Need-shared-slice-read-if2 Inv-loop μ-loop
 shared-slice-read-if2 c = search needs
 
@@ -40,14 +36,12 @@ loop-again c = search (needs, by-line-on, by-width-on)
 add-lines : tie.Need-add-lines Inv-loop μ-loop
 add-lines c = search needs
 
--- src/lib.rt:98:23
 sub-larger : tie.Need-sub-larger Inv-loop μ-loop
 sub-larger c = search needs
 
 larger-requires : tie.Need-larger-requires Inv-loop μ-loop
 larger-requires c κs = search needs
 
--- src/lib.rt:99:9
 add-i-2 : tie.Need-add-i-2 Inv-loop μ-loop
 add-i-2 c = search needs
 
@@ -57,7 +51,6 @@ loop-less-2 c = search needs
 loop-again-2 : tie.Need-loop-again-2 Inv-loop μ-loop
 loop-again-2 c = search (needs, by-line-fed, by-width-fed)
 
--- src/lib.rt:104:23
 sub-larger-2 : tie.Need-sub-larger-2 Inv-loop μ-loop
 sub-larger-2 c = search needs
 

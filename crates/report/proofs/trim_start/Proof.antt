@@ -1,11 +1,6 @@
 use borrow.Author.Needs.{needs}
 use Rattle.report.proofs.trim_start.Statement.{statement}
 use Rattle.report.proofs.trim_start.Tie as tie
-use Rattle.report.proofs.trim_start.Reads as reads
-use Rattle.report.proofs.trim_start.Lts as lts
-use Rattle.report.proofs.move_down.Reads as move-down-reads
-use Rattle.report.proofs.white_start.Reads as white-start-reads
-use Rattle.text.proofs.fill.Reads as fill-reads
 use Rattle.report.proofs.TrimLaws.{by-stays, by-down}
 
 white-start-requires : tie.Need-white-start-requires
@@ -26,11 +21,9 @@ move-down-requires c κs = search needs
 fill-requires : tie.Need-fill-requires
 fill-requires c κs = search needs
 
--- src/lib.rt:55:1
 same-length-2 : tie.Need-same-length-2
 same-length-2 c = search needs
 
--- src/lib.rt:55:1
 returns-2 : tie.Need-returns-2
 returns-2 c = search (needs, by-down)
 

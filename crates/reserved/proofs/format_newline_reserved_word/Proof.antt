@@ -1,17 +1,6 @@
 use borrow.Author.Needs.{needs}
 use Rattle.reserved.proofs.format_newline_reserved_word.Statement.{statement}
 use Rattle.reserved.proofs.format_newline_reserved_word.Tie as tie
-use Rattle.reserved.proofs.format_newline_reserved_word.Reads as reads
-use Rattle.reserved.proofs.format_newline_reserved_word.Lts as lts
-use Rattle.around.proofs.after_line_comment.Reads as after-line-comment-reads
-use Rattle.indentation.proofs.Indentation.span.Reads as span-reads
-use Rattle.inline_block.proofs.InlineBlock.is_active.Reads as is-active-reads
-use Rattle.query_reserved.proofs.format_newline_reserved_word.Reads as format-newline-reserved-word-reads
-use Rattle.reserved.proofs.breaks_before.Reads as breaks-before-reads
-use Rattle.reserved.proofs.case_of.Reads as case-of-reads
-use Rattle.reserved.proofs.newline_level.Reads as newline-level-reads
-use Rattle.state.proofs.State.with_indentation.Reads as with-indentation-reads
-use Rattle.state.proofs.value_of.Reads as value-of-reads
 use denote.Ref.{now}
 use Rattle.state.proofs.Laws.{value-inside}
 use Rattle.state.proofs.Laws.{known-readable}
@@ -52,7 +41,6 @@ with-indentation-requires c κs = search needs
 same-length : tie.Need-same-length
 same-length c = search needs
 
--- src/lib.rt:130:1
 same-length-2 : tie.Need-same-length-2
 same-length-2 c = search needs
 

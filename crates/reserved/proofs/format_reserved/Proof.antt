@@ -1,13 +1,6 @@
 use borrow.Author.Needs.{needs}
 use Rattle.reserved.proofs.format_reserved.Statement.{statement}
 use Rattle.reserved.proofs.format_reserved.Tie as tie
-use Rattle.reserved.proofs.format_reserved.Reads as reads
-use Rattle.reserved.proofs.format_reserved.Lts as lts
-use Rattle.indentation.proofs.Indentation.set_previous_reserved.Reads as set-previous-reserved-reads
-use Rattle.query_reserved.proofs.format_reserved.Reads as format-reserved-reads
-use Rattle.reserved.proofs.case_of.Reads as case-of-reads
-use Rattle.state.proofs.State.with_indentation.Reads as with-indentation-reads
-use Rattle.state.proofs.value_of.Reads as value-of-reads
 use denote.Ref.{now}
 use Rattle.state.proofs.Laws.{value-inside}
 use Rattle.reserved.proofs.Laws.{by-reserved}
@@ -33,7 +26,6 @@ with-indentation-requires c κs = search needs
 same-length : tie.Need-same-length
 same-length c = search needs
 
--- src/lib.rt:170:1
 same-length-2 : tie.Need-same-length-2
 same-length-2 c = search needs
 

@@ -1,15 +1,11 @@
 use borrow.Author.Needs.{needs}
 use Rattle.reserved.proofs.increase_if.Statement.{statement}
 use Rattle.reserved.proofs.increase_if.Tie as tie
-use Rattle.reserved.proofs.increase_if.Reads as reads
-use Rattle.reserved.proofs.increase_if.Lts as lts
-use Rattle.indentation.proofs.Indentation.increase_top_level.Reads as increase-top-level-reads
 use Rattle.reserved.proofs.Laws.{stands-then, stands-else}
 
 increase-top-level-requires : tie.Need-increase-top-level-requires
 increase-top-level-requires c κs = search needs
 
--- src/lib.rt:52:9
 same-length : tie.Need-same-length
 same-length c = search needs
 

@@ -1,9 +1,6 @@
 use borrow.Author.Needs.{needs}
 use Rattle.reserved.proofs.indent_inlined.Statement.{statement}
 use Rattle.reserved.proofs.indent_inlined.Tie as tie
-use Rattle.reserved.proofs.indent_inlined.Reads as reads
-use Rattle.reserved.proofs.indent_inlined.Lts as lts
-use Rattle.reserved.proofs.increase_if.Reads as increase-if-reads
 use Rattle.reserved.proofs.Laws.{stands-else, inlined-none, inlined-span}
 
 enum-told : tie.Need-enum-told
@@ -18,7 +15,6 @@ increase-if-requires c κs = search needs
 returns : tie.Need-returns
 returns c = inlined-none _ _ _ _ (c .before .before .if1 .taken) (c .enum-told .given .1) (search needs)
 
--- src/lib.rt:91:9
 same-length : tie.Need-same-length
 same-length c = search needs
 

@@ -1,14 +1,6 @@
 use borrow.Author.Needs.{needs}
 use Rattle.reserved.proofs.newline_level.Statement.{statement}
 use Rattle.reserved.proofs.newline_level.Tie as tie
-use Rattle.reserved.proofs.newline_level.Reads as reads
-use Rattle.reserved.proofs.newline_level.Lts as lts
-use Rattle.indentation.proofs.Indentation.indent_level.Reads as indent-level-reads
-use Rattle.indentation.proofs.Indentation.is_full.Reads as is-full-reads
-use Rattle.indentation.proofs.Indentation.previous_top_level_reserved.Reads as previous-top-level-reserved-reads
-use Rattle.indentation.proofs.Indentation.set_previous_reserved.Reads as set-previous-reserved-reads
-use Rattle.reserved.proofs.indent_inlined.Reads as indent-inlined-reads
-use Rattle.reserved.proofs.six_inlined.Reads as six-inlined-reads
 use Rattle.reserved.proofs.Laws.{by-indented}
 
 previous-top-level-reserved-requires : tie.Need-previous-top-level-reserved-requires
@@ -29,7 +21,6 @@ is-full-requires c κs = search needs
 six-inlined-requires : tie.Need-six-inlined-requires
 six-inlined-requires c κs = search needs
 
--- src/lib.rt:114:1
 same-length : tie.Need-same-length
 same-length c = search needs
 

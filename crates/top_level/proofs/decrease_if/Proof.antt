@@ -1,15 +1,11 @@
 use borrow.Author.Needs.{needs}
 use Rattle.top_level.proofs.decrease_if.Statement.{statement}
 use Rattle.top_level.proofs.decrease_if.Tie as tie
-use Rattle.top_level.proofs.decrease_if.Reads as reads
-use Rattle.top_level.proofs.decrease_if.Lts as lts
-use Rattle.indentation.proofs.Indentation.decrease_top_level.Reads as decrease-top-level-reads
 use Rattle.reserved.proofs.Laws.{stands-then, stands-else}
 
 decrease-top-level-requires : tie.Need-decrease-top-level-requires
 decrease-top-level-requires c κs = search needs
 
--- src/lib.rt:54:9
 same-length : tie.Need-same-length
 same-length c = search needs
 

@@ -1,16 +1,6 @@
 use borrow.Author.Needs.{needs}
 use Rattle.top_level.proofs.format_top_level_reserved_word.Statement.{statement}
 use Rattle.top_level.proofs.format_top_level_reserved_word.Tie as tie
-use Rattle.top_level.proofs.format_top_level_reserved_word.Reads as reads
-use Rattle.top_level.proofs.format_top_level_reserved_word.Lts as lts
-use Rattle.inline_block.proofs.InlineBlock.cur_len.Reads as cur-len-reads
-use Rattle.query_reserved.proofs.format_top_level_reserved_word.Reads as format-top-level-reserved-word-reads
-use Rattle.reserved.proofs.case_of.Reads as case-of-reads
-use Rattle.state.proofs.State.with_indentation.Reads as with-indentation-reads
-use Rattle.state.proofs.value_of.Reads as value-of-reads
-use Rattle.top_level.proofs.levels_around.Reads as levels-around-reads
-use Rattle.top_level.proofs.span_info.Reads as span-info-reads
-use Rattle.top_level.proofs.starts_level.Reads as starts-level-reads
 use denote.Ref.{now}
 use Rattle.state.proofs.Laws.{value-inside}
 use Rattle.top_level.proofs.Laws.{by-top-level}
@@ -48,7 +38,6 @@ with-indentation-requires c κs = search needs
 same-length : tie.Need-same-length
 same-length c = search needs
 
--- src/lib.rt:98:1
 same-length-2 : tie.Need-same-length-2
 same-length-2 c = search needs
 

@@ -1,13 +1,6 @@
 use borrow.Author.Needs.{needs}
 use Rattle.top_level.proofs.levels_around.Statement.{statement}
 use Rattle.top_level.proofs.levels_around.Tie as tie
-use Rattle.top_level.proofs.levels_around.Reads as reads
-use Rattle.top_level.proofs.levels_around.Lts as lts
-use Rattle.indentation.proofs.Indentation.indent_level.Reads as indent-level-reads
-use Rattle.indentation.proofs.Indentation.is_full.Reads as is-full-reads
-use Rattle.indentation.proofs.Indentation.set_previous_top_level.Reads as set-previous-top-level-reads
-use Rattle.reserved.proofs.increase_if.Reads as increase-if-reads
-use Rattle.top_level.proofs.decrease_if.Reads as decrease-if-reads
 use Rattle.top_level.proofs.Laws.{by-turned}
 
 decrease-if-requires : tie.Need-decrease-if-requires
@@ -28,7 +21,6 @@ set-previous-top-level-requires c κs = search needs
 is-full-requires : tie.Need-is-full-requires
 is-full-requires c κs = search needs
 
--- src/lib.rt:60:1
 same-length : tie.Need-same-length
 same-length c = search needs
 

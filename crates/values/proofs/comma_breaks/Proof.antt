@@ -1,13 +1,6 @@
 use borrow.Author.Needs.{needs}
 use Rattle.values.proofs.comma_breaks.Statement.{statement}
 use Rattle.values.proofs.comma_breaks.Tie as tie
-use Rattle.values.proofs.comma_breaks.Reads as reads
-use Rattle.values.proofs.comma_breaks.Lts as lts
-use Rattle.indentation.proofs.Indentation.previous_reserved.Reads as previous-reserved-reads
-use Rattle.indentation.proofs.Indentation.previous_top_level_reserved.Reads as previous-top-level-reserved-reads
-use Rattle.values.proofs.is_limit.Reads as is-limit-reads
-use Rattle.values.proofs.or_zero.Reads as or-zero-reads
-use Rattle.values.proofs.span_within.Reads as span-within-reads
 use Rattle.values.proofs.Laws.{by-active, by-limit, by-within}
 use Rattle.state.specs.Below.{last-below}
 

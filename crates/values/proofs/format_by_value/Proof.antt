@@ -1,14 +1,6 @@
 use borrow.Author.Needs.{needs}
 use Rattle.values.proofs.format_by_value.Statement.{statement}
 use Rattle.values.proofs.format_by_value.Tie as tie
-use Rattle.values.proofs.format_by_value.Reads as reads
-use Rattle.values.proofs.format_by_value.Lts as lts
-use Rattle.around.proofs.is_byte.Reads as is-byte-reads
-use Rattle.values.proofs.format_comma.Reads as format-comma-reads
-use Rattle.values.proofs.format_query_separator.Reads as format-query-separator-reads
-use Rattle.values.proofs.format_with_space_after.Reads as format-with-space-after-reads
-use Rattle.values.proofs.format_with_spaces.Reads as format-with-spaces-reads
-use Rattle.values.proofs.format_without_spaces.Reads as format-without-spaces-reads
 use Rattle.state.proofs.Laws.{known-within}
 use Rattle.values.proofs.ByValue.{is-comma, is-colon, is-dot, is-semicolon, is-other}
 
@@ -53,7 +45,6 @@ format-without-spaces-requires c κs = search needs
 same-length-5 : tie.Need-same-length-5
 same-length-5 c = search needs
 
--- src/lib.rt:259:9
 same-length-6 : tie.Need-same-length-6
 same-length-6 c = search needs
 
@@ -67,11 +58,9 @@ is-byte-requires-4 c κs = search (needs, known-within)
 format-query-separator-requires : tie.Need-format-query-separator-requires
 format-query-separator-requires c κs = search needs
 
--- src/lib.rt:262:9
 same-length-7 : tie.Need-same-length-7
 same-length-7 c = search needs
 
--- src/lib.rt:262:9
 same-length-8 : tie.Need-same-length-8
 same-length-8 c = search needs
 
@@ -82,11 +71,9 @@ returns-4 c =
 format-with-spaces-requires : tie.Need-format-with-spaces-requires
 format-with-spaces-requires c κs = search needs
 
--- src/lib.rt:241:1
 same-length-9 : tie.Need-same-length-9
 same-length-9 c = search needs
 
--- src/lib.rt:241:1
 same-length-10 : tie.Need-same-length-10
 same-length-10 c = search needs
 

@@ -1,14 +1,6 @@
 use borrow.Author.Needs.{needs}
 use Rattle.values.proofs.format_comma.Statement.{statement}
 use Rattle.values.proofs.format_comma.Tie as tie
-use Rattle.values.proofs.format_comma.Reads as reads
-use Rattle.values.proofs.format_comma.Lts as lts
-use Rattle.indentation.proofs.Indentation.indent_level.Reads as indent-level-reads
-use Rattle.inline_block.proofs.InlineBlock.is_active.Reads as is-active-reads
-use Rattle.query.proofs.format_comma.Reads as format-comma-reads
-use Rattle.state.proofs.State.with_text.Reads as with-text-reads
-use Rattle.state.proofs.value_of.Reads as value-of-reads
-use Rattle.values.proofs.comma_breaks.Reads as comma-breaks-reads
 use denote.Ref.{now}
 use Rattle.state.proofs.Laws.{value-inside}
 use Rattle.state.specs.Below.{below-all}

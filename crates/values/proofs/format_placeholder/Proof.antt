@@ -1,14 +1,6 @@
 use borrow.Author.Needs.{needs}
 use Rattle.values.proofs.format_placeholder.Statement.{statement}
 use Rattle.values.proofs.format_placeholder.Tie as tie
-use Rattle.values.proofs.format_placeholder.Reads as reads
-use Rattle.values.proofs.format_placeholder.Lts as lts
-use Rattle.params.proofs.get.Reads as get-reads
-use Rattle.params.proofs.offends.Reads as offends-reads
-use Rattle.query.proofs.format_placeholder.Reads as format-placeholder-reads
-use Rattle.tokens.proofs.token_at.Reads as token-at-reads
-use Rattle.values.proofs.value_in.Reads as value-in-reads
-use Rattle.values.proofs.with_index.Reads as with-index-reads
 use denote.Ref.{now}
 use Rattle.values.proofs.Placeholder.{key-known, index-small, start-small, shown-within, by-placeholder}
 

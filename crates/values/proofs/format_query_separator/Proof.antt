@@ -1,12 +1,6 @@
 use borrow.Author.Needs.{needs}
 use Rattle.values.proofs.format_query_separator.Statement.{statement}
 use Rattle.values.proofs.format_query_separator.Tie as tie
-use Rattle.values.proofs.format_query_separator.Reads as reads
-use Rattle.values.proofs.format_query_separator.Lts as lts
-use Rattle.indentation.proofs.Indentation.reset_indentation.Reads as reset-indentation-reads
-use Rattle.query.proofs.format_query_separator.Reads as format-query-separator-reads
-use Rattle.state.proofs.State.with_indentation.Reads as with-indentation-reads
-use Rattle.state.proofs.value_of.Reads as value-of-reads
 use denote.Ref.{now}
 use Rattle.state.proofs.Laws.{value-inside}
 use Rattle.values.proofs.Laws.{by-separator}
@@ -26,7 +20,6 @@ with-indentation-requires c κs = search needs
 same-length : tie.Need-same-length
 same-length c = search needs
 
--- src/lib.rt:176:1
 same-length-2 : tie.Need-same-length-2
 same-length-2 c = search needs
 

@@ -1,11 +1,6 @@
 use borrow.Author.Needs.{needs}
 use Rattle.values.proofs.format_with_space_after.Statement.{statement}
 use Rattle.values.proofs.format_with_space_after.Tie as tie
-use Rattle.values.proofs.format_with_space_after.Reads as reads
-use Rattle.values.proofs.format_with_space_after.Lts as lts
-use Rattle.query.proofs.format_with_space_after.Reads as format-with-space-after-reads
-use Rattle.state.proofs.State.with_text.Reads as with-text-reads
-use Rattle.state.proofs.value_of.Reads as value-of-reads
 use Rattle.state.proofs.Laws.{value-inside}
 use Rattle.values.proofs.Laws.{by-with-space-after}
 

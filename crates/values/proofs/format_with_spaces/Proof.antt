@@ -1,11 +1,6 @@
 use borrow.Author.Needs.{needs}
 use Rattle.values.proofs.format_with_spaces.Statement.{statement}
 use Rattle.values.proofs.format_with_spaces.Tie as tie
-use Rattle.values.proofs.format_with_spaces.Reads as reads
-use Rattle.values.proofs.format_with_spaces.Lts as lts
-use Rattle.query.proofs.format_with_spaces.Reads as format-with-spaces-reads
-use Rattle.state.proofs.State.with_text.Reads as with-text-reads
-use Rattle.state.proofs.value_of.Reads as value-of-reads
 use Rattle.state.proofs.Laws.{value-inside}
 use Rattle.values.proofs.Laws.{by-with-spaces}
 

@@ -1,10 +1,5 @@
 use Rattle.indentation.proofs.Indentation.decrease_block_level.Statement.{statement}
 use Rattle.indentation.proofs.Indentation.decrease_block_level.Tie as tie
-use Rattle.indentation.proofs.Indentation.decrease_block_level.Reads as reads
-use Rattle.indentation.proofs.Indentation.decrease_block_level.Lts as lts
-use Rattle.indentation.proofs.Indentation.decrease_top_level.Reads as decrease-top-level-reads
-use Rattle.indentation.proofs.Indentation.ends_top.Reads as ends-top-reads
-use Rattle.indentation.proofs.Indentation.pop_block.Reads as pop-block-reads
 use borrow.Author.Needs.{needs}
 use mathlib.Core.Path.{_≡_, refl, sym, _∙_}
 use Prim.Native.Nat.{ℕ, _≤_}
@@ -41,7 +36,6 @@ loop-again c =
 pop-block-requires : tie.Need-pop-block-requires Inv-loop μ-loop
 pop-block-requires c κs = (search needs, sym (c .before .before .ends-top .ensures) ∙ c .before .if1 .left)
 
--- src/lib.rt:257:5
 same-length : tie.Need-same-length Inv-loop μ-loop
 same-length c = search (needs)
 

@@ -1,8 +1,6 @@
 use borrow.Author.Needs.{needs}
 use Rattle.indentation.proofs.Indentation.ends_top.Statement.{statement}
 use Rattle.indentation.proofs.Indentation.ends_top.Tie as tie
-use Rattle.indentation.proofs.Indentation.ends_top.Reads as reads
-use Rattle.indentation.proofs.Indentation.ends_top.Lts as lts
 use Rattle.indentation.proofs.StandLaws.{by-ends, by-ends-none}
 
 returns : tie.Need-returns
@@ -11,11 +9,9 @@ returns c = search (needs, by-ends-none)
 sub-result : tie.Need-sub-result
 sub-result c = search needs
 
--- src/lib.rt:208:9
 mul-result : tie.Need-mul-result
 mul-result c = search needs
 
--- src/lib.rt:208:9
 shared-slice-read-result : tie.Need-shared-slice-read-result
 shared-slice-read-result c = search needs
 

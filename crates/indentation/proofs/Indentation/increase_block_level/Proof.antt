@@ -1,11 +1,6 @@
 use borrow.Author.Needs.{needs}
 use Rattle.indentation.proofs.Indentation.increase_block_level.Statement.{statement}
 use Rattle.indentation.proofs.Indentation.increase_block_level.Tie as tie
-use Rattle.indentation.proofs.Indentation.increase_block_level.Reads as reads
-use Rattle.indentation.proofs.Indentation.increase_block_level.Lts as lts
-use Rattle.indentation.proofs.block_kind.Reads as block-kind-reads
-use Rattle.previous.proofs.no_previous.Reads as no-previous-reads
-use Rattle.previous.proofs.put_previous.Reads as put-previous-reads
 use Rattle.indentation.proofs.StandLaws.{by-block, by-block-full}
 use lib.ListN.{length-set}
 use mathlib.Core.Path.{_∙_}
@@ -17,11 +12,9 @@ returns c = search (needs, by-block-full)
 block-kind-requires : tie.Need-block-kind-requires
 block-kind-requires c κs = search needs
 
--- src/lib.rt:192:9
 mul-stacks : tie.Need-mul-stacks
 mul-stacks c = search needs
 
--- src/lib.rt:192:9
 slice-write-stacks : tie.Need-slice-write-stacks
 slice-write-stacks c = search needs
 
@@ -31,14 +24,12 @@ add-self c = search needs
 no-previous-requires : tie.Need-no-previous-requires
 no-previous-requires c κs = search needs
 
--- src/lib.rt:194:9
 put-previous-requires : tie.Need-put-previous-requires
 put-previous-requires c κs = search needs
 
 add-self-2 : tie.Need-add-self-2
 add-self-2 c = search needs
 
--- src/lib.rt:183:5
 same-length : tie.Need-same-length
 same-length c = length-put _ _ _ _ (c .before .before .put-previous .ensures) ∙ simp length-set
 

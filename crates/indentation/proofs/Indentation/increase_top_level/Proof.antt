@@ -1,8 +1,6 @@
 use borrow.Author.Needs.{needs}
 use Rattle.indentation.proofs.Indentation.increase_top_level.Statement.{statement}
 use Rattle.indentation.proofs.Indentation.increase_top_level.Tie as tie
-use Rattle.indentation.proofs.Indentation.increase_top_level.Reads as reads
-use Rattle.indentation.proofs.Indentation.increase_top_level.Lts as lts
 use Rattle.indentation.proofs.StandLaws.{by-top, by-top-full, spans-room}
 use lib.ListN.{length-set}
 use native.Mathlib.Omega.{arith}
@@ -10,26 +8,21 @@ use native.Mathlib.Omega.{arith}
 returns : tie.Need-returns
 returns c = search (needs, by-top-full)
 
--- src/lib.rt:176:9
 mul-stacks : tie.Need-mul-stacks
 mul-stacks c = search needs
 
--- src/lib.rt:176:9
 slice-write-stacks : tie.Need-slice-write-stacks
 slice-write-stacks c = search needs
 
 add-self : tie.Need-add-self
 add-self c = search needs
 
--- src/lib.rt:178:16
 add-stacks : tie.Need-add-stacks
 add-stacks c = search needs
 
--- src/lib.rt:178:9
 mul-stacks-2 : tie.Need-mul-stacks-2
 mul-stacks-2 c = search needs
 
--- src/lib.rt:178:9
 slice-write-stacks-2 : tie.Need-slice-write-stacks-2
 slice-write-stacks-2 c =
     let l = c .before .pre .sound .long in
@@ -39,7 +32,6 @@ slice-write-stacks-2 c =
 add-self-2 : tie.Need-add-self-2
 add-self-2 c = search needs
 
--- src/lib.rt:167:5
 same-length : tie.Need-same-length
 same-length c = search needs
 

@@ -1,10 +1,6 @@
 use borrow.Author.Needs.{needs}
 use Rattle.indentation.proofs.Indentation.indent_level.Statement.{statement}
 use Rattle.indentation.proofs.Indentation.indent_level.Tie as tie
-use Rattle.indentation.proofs.Indentation.indent_level.Reads as reads
-use Rattle.indentation.proofs.Indentation.indent_level.Lts as lts
-use Rattle.indentation.proofs.Indentation.unfolded_count.Reads as unfolded-count-reads
-use Rattle.indentation.proofs.less.Reads as less-reads
 use Rattle.indentation.proofs.StandLaws.{by-level, by-level-folded}
 
 unfolded-count-requires : tie.Need-unfolded-count-requires

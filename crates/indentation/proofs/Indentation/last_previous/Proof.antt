@@ -1,10 +1,6 @@
 use borrow.Author.Needs.{needs}
 use Rattle.indentation.proofs.Indentation.last_previous.Statement.{statement}
 use Rattle.indentation.proofs.Indentation.last_previous.Tie as tie
-use Rattle.indentation.proofs.Indentation.last_previous.Reads as reads
-use Rattle.indentation.proofs.Indentation.last_previous.Lts as lts
-use Rattle.previous.proofs.no_previous.Reads as no-previous-reads
-use Rattle.previous.proofs.previous_at.Reads as previous-at-reads
 use Rattle.indentation.proofs.StandLaws.{by-last, by-last-none}
 
 no-previous-requires : tie.Need-no-previous-requires
@@ -13,11 +9,9 @@ no-previous-requires c κs = search needs
 returns : tie.Need-returns
 returns c = search (needs, by-last-none)
 
--- src/lib.rt:308:29
 sub-previous-at : tie.Need-sub-previous-at
 sub-previous-at c = search needs
 
--- src/lib.rt:308:9
 previous-at-requires : tie.Need-previous-at-requires
 previous-at-requires c κs = search needs
 

@@ -1,11 +1,6 @@
 use borrow.Author.Needs.{needs}
 use Rattle.indentation.proofs.Indentation.pop_block.Statement.{statement}
 use Rattle.indentation.proofs.Indentation.pop_block.Tie as tie
-use Rattle.indentation.proofs.Indentation.pop_block.Reads as reads
-use Rattle.indentation.proofs.Indentation.pop_block.Lts as lts
-use Rattle.indentation.proofs.less.Reads as less-reads
-use Rattle.previous.proofs.no_previous.Reads as no-previous-reads
-use Rattle.previous.proofs.put_previous.Reads as put-previous-reads
 use Rattle.indentation.proofs.StandLaws.{by-block-pops, by-none-left}
 use lib.ListN.{length-set}
 use mathlib.Core.Path.{_∙_}
@@ -20,30 +15,24 @@ sub-k c = search needs
 less-requires : tie.Need-less-requires
 less-requires c κs = search needs
 
--- src/lib.rt:246:20
 mul-kind : tie.Need-mul-kind
 mul-kind c = search needs
 
--- src/lib.rt:246:20
 slice-read-kind : tie.Need-slice-read-kind
 slice-read-kind c = search needs
 
--- src/lib.rt:247:9
 mul-stacks : tie.Need-mul-stacks
 mul-stacks c = search needs
 
--- src/lib.rt:247:9
 slice-write-stacks : tie.Need-slice-write-stacks
 slice-write-stacks c = search needs
 
 no-previous-requires : tie.Need-no-previous-requires
 no-previous-requires c κs = search needs
 
--- src/lib.rt:249:9
 put-previous-requires : tie.Need-put-previous-requires
 put-previous-requires c κs = search needs
 
--- src/lib.rt:232:5
 same-length : tie.Need-same-length
 same-length c = length-put _ _ _ _ (c .before .before .put-previous .ensures) ∙ simp length-set
 

@@ -1,9 +1,6 @@
 use borrow.Author.Needs.{needs}
 use Rattle.indentation.proofs.Indentation.previous_reserved.Statement.{statement}
 use Rattle.indentation.proofs.Indentation.previous_reserved.Tie as tie
-use Rattle.indentation.proofs.Indentation.previous_reserved.Reads as reads
-use Rattle.indentation.proofs.Indentation.previous_reserved.Lts as lts
-use Rattle.indentation.proofs.Indentation.last_previous.Reads as last-previous-reads
 use Rattle.indentation.specs.Of.{wordIn}
 use Rattle.indentation.proofs.StandLaws.{by-no-word, by-word}
 
@@ -14,7 +11,6 @@ returns : tie.Need-returns
 unfolding wordIn
 returns c = search (needs, by-no-word)
 
--- src/lib.rt:320:21
 sub-t6 : tie.Need-sub-t6
 sub-t6 c = search needs
 

@@ -1,8 +1,5 @@
 use Rattle.indentation.proofs.Indentation.reset_indentation.Statement.{statement}
 use Rattle.indentation.proofs.Indentation.reset_indentation.Tie as tie
-use Rattle.indentation.proofs.Indentation.reset_indentation.Reads as reads
-use Rattle.indentation.proofs.Indentation.reset_indentation.Lts as lts
-use Rattle.indentation.proofs.Indentation.new.Reads as new-reads
 use borrow.Author.Needs.{needs}
 use native.Mathlib.Omega.{arith}
 use Prim.Native.Nat.{_-_, _≤_}
@@ -14,45 +11,36 @@ Inv-loop stacks₀ i₀ stacks i = (i ≤ 1159) × Zeroed stacks₀ i stacks
 abbrev μ-loop : tie.MeasureT-loop
 μ-loop stacks₀ i₀ stacks i = 1159 - i
 
--- src/lib.rt:160:9
 loop-holds : tie.Need-loop-holds Inv-loop μ-loop
 loop-holds c = (omega arith, zeroed-none _)
 
--- src/lib.rt:161:13
 mul-stacks : tie.Need-mul-stacks Inv-loop μ-loop
 mul-stacks c = search needs
 
--- src/lib.rt:161:13
 slice-write-stacks : tie.Need-slice-write-stacks Inv-loop μ-loop
 slice-write-stacks c =
     let l = c .before .loop .inv .1 .long in
     let s = c .before .before .before .pre .sound .long in
     omega arith
 
--- src/lib.rt:162:13
 add-i : tie.Need-add-i Inv-loop μ-loop
 add-i c = omega arith
 
--- src/lib.rt:160:9
 loop-less : tie.Need-loop-less Inv-loop μ-loop
 loop-less c = omega arith
 
--- src/lib.rt:160:9
 loop-again : tie.Need-loop-again Inv-loop μ-loop
 loop-again c =
     let l = c .before .loop .inv .1 .long in
     let s = c .before .before .before .pre .sound .long in
     (omega arith, zeroed-on _ _ _ (c .before .loop .inv .1) (omega arith))
 
--- src/lib.rt:164:9
 new-requires : tie.Need-new-requires Inv-loop μ-loop
 new-requires c κs = search needs
 
--- src/lib.rt:155:5
 same-length : tie.Need-same-length Inv-loop μ-loop
 same-length c = c .before .before .loop .inv .1 .long
 
--- src/lib.rt:155:5
 returns : tie.Need-returns Inv-loop μ-loop
 returns c =
     by-zeroed _ _ _ _ (c .before .before .before .before .pre .sound) (c .before .before .loop .inv .1) (c .before .before .loop .inv .0) (c .before .loop-test .left) (c .new .ensures)

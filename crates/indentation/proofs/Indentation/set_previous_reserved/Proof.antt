@@ -1,12 +1,6 @@
 use borrow.Author.Needs.{needs}
 use Rattle.indentation.proofs.Indentation.set_previous_reserved.Statement.{statement}
 use Rattle.indentation.proofs.Indentation.set_previous_reserved.Tie as tie
-use Rattle.indentation.proofs.Indentation.set_previous_reserved.Reads as reads
-use Rattle.indentation.proofs.Indentation.set_previous_reserved.Lts as lts
-use Rattle.previous.proofs.no_previous.Reads as no-previous-reads
-use Rattle.previous.proofs.previous_at.Reads as previous-at-reads
-use Rattle.previous.proofs.put_previous.Reads as put-previous-reads
-use Rattle.previous.proofs.reserved_after.Reads as reserved-after-reads
 use Rattle.indentation.proofs.StandLaws.{by-first-reserved, by-next-reserved}
 
 no-previous-requires : tie.Need-no-previous-requires
@@ -15,37 +9,30 @@ no-previous-requires c κs = search needs
 reserved-after-requires : tie.Need-reserved-after-requires
 reserved-after-requires c κs = search needs
 
--- src/lib.rt:275:13
 put-previous-requires : tie.Need-put-previous-requires
 put-previous-requires c κs = search needs
 
--- src/lib.rt:277:13
 same-length : tie.Need-same-length
 same-length c = search needs
 
 returns : tie.Need-returns
 returns c = search (needs, by-first-reserved)
 
--- src/lib.rt:279:40
 sub-previous-at : tie.Need-sub-previous-at
 sub-previous-at c = search needs
 
--- src/lib.rt:279:13
 previous-at-requires : tie.Need-previous-at-requires
 previous-at-requires c κs = search needs
 
--- src/lib.rt:280:30
 sub-put-previous : tie.Need-sub-put-previous
 sub-put-previous c = search needs
 
 reserved-after-requires-2 : tie.Need-reserved-after-requires-2
 reserved-after-requires-2 c κs = search needs
 
--- src/lib.rt:280:9
 put-previous-requires-2 : tie.Need-put-previous-requires-2
 put-previous-requires-2 c κs = search needs
 
--- src/lib.rt:268:5
 same-length-2 : tie.Need-same-length-2
 same-length-2 c = search needs
 

@@ -1,14 +1,11 @@
 use borrow.Author.Needs.{needs}
 use Rattle.indentation.proofs.Indentation.span.Statement.{statement}
 use Rattle.indentation.proofs.Indentation.span.Tie as tie
-use Rattle.indentation.proofs.Indentation.span.Reads as reads
-use Rattle.indentation.proofs.Indentation.span.Lts as lts
 use Rattle.indentation.proofs.StandLaws.{by-span, by-span-none}
 
 returns : tie.Need-returns
 returns c = search (needs, by-span-none)
 
--- src/lib.rt:343:16
 add-result : tie.Need-add-result
 add-result c = search needs
 
@@ -18,7 +15,6 @@ sub-result c = search needs
 mul-result : tie.Need-mul-result
 mul-result c = search needs
 
--- src/lib.rt:343:9
 shared-slice-read-result : tie.Need-shared-slice-read-result
 shared-slice-read-result c = search needs
 

@@ -1,8 +1,5 @@
 use Rattle.indentation.proofs.Indentation.unfolded_count.Statement.{statement}
 use Rattle.indentation.proofs.Indentation.unfolded_count.Tie as tie
-use Rattle.indentation.proofs.Indentation.unfolded_count.Reads as reads
-use Rattle.indentation.proofs.Indentation.unfolded_count.Lts as lts
-use Rattle.indentation.proofs.weight.Reads as weight-reads
 use borrow.Author.Needs.{needs}
 use denote.Ref.{now}
 use mathlib.Core.Path.{_≡_, _∙_}
@@ -26,11 +23,9 @@ loop-holds : tie.Need-loop-holds Inv-loop μ-loop
 unfolding unfolded
 loop-holds c = search needs
 
--- src/lib.rt:360:29
 mul-weight : tie.Need-mul-weight Inv-loop μ-loop
 mul-weight c = search needs
 
--- src/lib.rt:360:29
 shared-slice-read-weight : tie.Need-shared-slice-read-weight Inv-loop μ-loop
 shared-slice-read-weight c = search needs
 

@@ -1,26 +1,20 @@
 use borrow.Author.Needs.{needs}
 use Rattle.inline_block.proofs.InlineBlock.begin_if_possible.Statement.{statement}
 use Rattle.inline_block.proofs.InlineBlock.begin_if_possible.Tie as tie
-use Rattle.inline_block.proofs.InlineBlock.begin_if_possible.Reads as reads
-use Rattle.inline_block.proofs.InlineBlock.begin_if_possible.Lts as lts
 use Rattle.inline_block.proofs.Laws.{by-begin, by-no-room, by-not-inline}
 
--- src/lib.rt:28:24
 add-stacks : tie.Need-add-stacks
 add-stacks c = search needs
 
--- src/lib.rt:28:17
 mul-stacks : tie.Need-mul-stacks
 mul-stacks c = search needs
 
--- src/lib.rt:28:17
 slice-write-stacks : tie.Need-slice-write-stacks
 slice-write-stacks c = search needs
 
 add-self : tie.Need-add-self
 add-self c = search needs
 
--- src/lib.rt:30:17
 same-length : tie.Need-same-length
 same-length c = search needs
 

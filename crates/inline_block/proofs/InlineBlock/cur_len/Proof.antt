@@ -1,14 +1,11 @@
 use borrow.Author.Needs.{needs}
 use Rattle.inline_block.proofs.InlineBlock.cur_len.Statement.{statement}
 use Rattle.inline_block.proofs.InlineBlock.cur_len.Tie as tie
-use Rattle.inline_block.proofs.InlineBlock.cur_len.Reads as reads
-use Rattle.inline_block.proofs.InlineBlock.cur_len.Lts as lts
 use Rattle.inline_block.proofs.Laws.{by-cur, by-cur-none}
 
 returns : tie.Need-returns
 returns c = search (needs, by-cur-none)
 
--- src/lib.rt:69:16
 add-result : tie.Need-add-result
 add-result c = search needs
 
@@ -18,7 +15,6 @@ sub-result c = search needs
 mul-result : tie.Need-mul-result
 mul-result c = search needs
 
--- src/lib.rt:69:9
 shared-slice-read-result : tie.Need-shared-slice-read-result
 shared-slice-read-result c = search needs
 

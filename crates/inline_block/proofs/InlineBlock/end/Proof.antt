@@ -1,33 +1,26 @@
 use borrow.Author.Needs.{needs}
 use Rattle.inline_block.proofs.InlineBlock.end.Statement.{statement}
 use Rattle.inline_block.proofs.InlineBlock.end.Tie as tie
-use Rattle.inline_block.proofs.InlineBlock.end.Reads as reads
-use Rattle.inline_block.proofs.InlineBlock.end.Lts as lts
 use Rattle.inline_block.proofs.Laws.{by-end, by-none}
 
 returns : tie.Need-returns
 returns c = search (needs, by-none)
 
--- src/lib.rt:44:16
 add-stacks : tie.Need-add-stacks
 add-stacks c = search needs
 
--- src/lib.rt:44:16
 sub-stacks : tie.Need-sub-stacks
 sub-stacks c = search needs
 
--- src/lib.rt:44:9
 mul-stacks : tie.Need-mul-stacks
 mul-stacks c = search needs
 
--- src/lib.rt:44:9
 slice-write-stacks : tie.Need-slice-write-stacks
 slice-write-stacks c = search needs
 
 sub-self : tie.Need-sub-self
 sub-self c = search needs
 
--- src/lib.rt:36:5
 same-length : tie.Need-same-length
 same-length c = search needs
 
