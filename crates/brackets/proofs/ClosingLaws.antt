@@ -8,7 +8,7 @@ use native.Mathlib.Omega.{arith}
 use borrow.Author.Tests.{not-true, not-false, lt-ltb}
 use lib.Dec.{eqb, ltb}
 use lib.ListN.{length}
-use Rattle.rules.specs.Base.{if_then_else_}
+use Rattle.rules.specs.Base.{if_then_else_, choose}
 use Rattle.rules.specs.declared.Case.{Case}
 use Rattle.rules.specs.declared.FormatOptions.{FormatOptions}
 use Rattle.rules.specs.Bytes.{bytes as text}
@@ -26,7 +26,7 @@ use Rattle.indentation.specs.declared.Closed.{Closed as CodeClosed}
 use Rattle.inline_block.specs.Of as block
 use Rattle.inline_block.specs.declared.InlineBlock.{InlineBlock}
 use Rattle.inline_block.proofs.Laws.{blocks-same, active-is}
-use Rattle.query.specs.Query.{choose, closingInline, closing}
+use Rattle.query.specs.Query.{closingInline, closing}
 use Rattle.query.specs.declared.Value.{Value}
 use Rattle.query.proofs.Halves as halves
 use Rattle.state.specs.declared.State.{State as Code}

@@ -9,7 +9,7 @@ use Rattle.rules.specs.declared.Case.{Case}
 use Rattle.rules.specs.declared.FormatOptions.{FormatOptions}
 use Rattle.rules.specs.declared.SpanInfo.{SpanInfo}
 use Rattle.rules.specs.declared.TokenKind.the-variants.{ReservedTopLevel}
-use Rattle.rules.specs.Base.{holds, isSome}
+use Rattle.rules.specs.Base.{holds, isSome, choose}
 use Rattle.rules.specs.Bytes.{bytes}
 use Rattle.rules.specs.Tokens.{Here}
 use Rattle.rules.specs.Sheet.{Env}
@@ -19,7 +19,7 @@ use Rattle.rules.specs.Indentation.{Indentation, unfolded}
 use Rattle.rules.specs.InlineBlock.{buildInfo}
 use Rattle.rules.specs.Formatter.{kindIs, previousNonWhitespaceToken, foldsIn, cutsBefore, blankBetween}
 use Rattle.keeps.specs.CaseOf.{caseOf}
-use Rattle.query.specs.Query.{choose, closingInline, closing}
+use Rattle.query.specs.Query.{closingInline, closing}
 use Rattle.query_brackets.specs.declared.Opening.{Opening}
 use Rattle.state.specs.declared.Context.{Context}
 use Rattle.state.specs.Of.{wordOf, hereIn}

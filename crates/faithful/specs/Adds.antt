@@ -9,12 +9,12 @@ use lib.Dec.{eqb, leb}
 use lib.ListN.{length}
 use Rattle.rules.specs.declared.SpanInfo.{SpanInfo}
 use Rattle.rules.specs.declared.BlockInfo.{BlockInfo}
-use Rattle.rules.specs.Base.{if_then_else_}
+use Rattle.rules.specs.Base.{if_then_else_, choose, when}
 use Rattle.rules.specs.Tokens.{Token, Here}
 use Rattle.rules.specs.Sheet.{Env}
 use Rattle.rules.specs.Text.{isBlank, isWhite, trimEnd, lastOr, Text, fits, refused, change, append, lineFeed, refuse, newLine, cutBlanks}
 use Rattle.rules.specs.Indentation.{Indentation}
-use Rattle.rules.specs.State.{State, when, choose, refuseIf, trimSpacesEnd, trimAllSpacesEnd, pushStr, push, oneBlank, onText, onIndentation, onInlineBlock, onBlockLevel, addNewLine, addNewLineInner, getIndent, increaseTopLevel}
+use Rattle.rules.specs.State.{State, refuseIf, trimSpacesEnd, trimAllSpacesEnd, pushStr, push, oneBlank, onText, onIndentation, onInlineBlock, onBlockLevel, addNewLine, addNewLineInner, getIndent, increaseTopLevel}
 use Rattle.rules.specs.Formatter.{formatReservedWord, pushReserved, formatLineComment, formatTypeSpecifier, formatBlockComment, newTopLine, formatTopLevelReservedWord, formatTopLevelReservedWordNoIndent, formatNewlineAfterReservedWord, indentInlined, formatNewlineReservedWord, formatReserved, formatWithSpaces, formatWithSpaceAfter, formatWithoutSpaces, formatOpeningParentheses, formatClosingParentheses, formatComma, formatQuerySeparator, formatByValue}
 use Rattle.faithful.specs.Due.{strip}
 use Rattle.faithful.specs.Strip.{strip-append, strip-trimEnd, blank-white, strip-equalize, strip-indentComment, strip-indent, strip-replicate}

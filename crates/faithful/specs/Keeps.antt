@@ -9,13 +9,13 @@ use Rattle.rules.specs.declared.TokenKind.{TokenKind}
 use Rattle.rules.specs.declared.TokenKind.the-variants as kind
 use Rattle.rules.specs.declared.Turn.{Turn}
 use Rattle.rules.specs.declared.Turn.the-variants as turn
-use Rattle.rules.specs.Base.{if_then_else_}
+use Rattle.rules.specs.Base.{if_then_else_, when}
 use Rattle.rules.specs.Tokens.{Key, absent, named, zeroIndexed, oneIndexed, Token, Here, is}
 use Rattle.rules.specs.Sheet.{Env, QueryParams, None, Indexed, Named}
 use Rattle.rules.specs.Text.{Text, fits, refused}
 use Rattle.rules.specs.Switch.{Switch, turnOf, switchAfter, switchedOn}
 use Rattle.rules.specs.Params.{entry, get, advances, offends}
-use Rattle.rules.specs.State.{State, start, when, onIndex}
+use Rattle.rules.specs.State.{State, start, onIndex}
 use Rattle.rules.specs.Formatter.{spanInfo, formatPlaceholder, formatToken, formatNoChange}
 use Rattle.rules.specs.InlineBlock.{buildInfo}
 use Rattle.rules.specs.Answer.{Answer, laid, refusal, takenAs, report, unlessRefused, finish, formatFrom, format}

@@ -9,7 +9,7 @@ use lib.ListN.{length}
 use Rattle.rules.specs.declared.SpanInfo.{SpanInfo}
 use Rattle.rules.specs.declared.BlockInfo.{BlockInfo}
 use Rattle.rules.specs.declared.TokenKind.the-variants as kind
-use Rattle.rules.specs.Base.{if_then_else_, _▹_, holds, isSome}
+use Rattle.rules.specs.Base.{if_then_else_, _▹_, holds, isSome, choose, when}
 use Rattle.rules.specs.Bytes.{bytes}
 use Rattle.rules.specs.Tokens.{Here}
 use Rattle.rules.specs.Sheet.{Env}
@@ -17,7 +17,7 @@ use Rattle.rules.specs.Text.{Text, append, cutBlanks, isLower, equalizeWhitespa
 use Rattle.rules.specs.Indentation.{Indentation, Closed, noIndentation, indentLevel, unfolded, increaseBlockLevel, decreaseTopLevel, decreaseBlockLevel, setPreviousReserved, setPreviousTopLevel, previousTopLevelReserved, span, increaseTopLevel as increaseTop}
 use Rattle.rules.specs.InlineBlock.{isActive, full, beginsInline, beginIfPossible}
 use Rattle.rules.specs.Params.{get, advances, offends}
-use Rattle.rules.specs.State.{State, onText, onIndentation, onInlineBlock, onBlockLevel, onIndex, refuseIf, pushStr, push, trimSpacesEnd, trimAllSpacesEnd, getIndent, addNewLineInner, addNewLine, increaseTopLevel, when as whenS, choose as chooseS, oneBlank as oneBlankS}
+use Rattle.rules.specs.State.{State, onText, onIndentation, onInlineBlock, onBlockLevel, onIndex, refuseIf, pushStr, push, trimSpacesEnd, trimAllSpacesEnd, getIndent, addNewLineInner, addNewLine, increaseTopLevel, oneBlank as oneBlankS}
 use Rattle.rules.specs.Formatter as rule
 use Rattle.query.specs.Query
 
@@ -30,10 +30,6 @@ wordOf e h = equalizeWhitespace (rule.formatReservedWord e (h .token .value))
 
 abbrev pub bracketOf : Env → Here → List ℕ
 bracketOf e h = rule.formatReservedWord e (h .token .value)
-
--- f where b holds, on the stacks
-unfoldable pub whenI : Bool → (Indentation (List ℕ) → Indentation (List ℕ)) → Indentation (List ℕ) → Indentation (List ℕ)
-whenI b f i = if b then f i else i
 
 -- the last top-level word was inlined; its span
 unfoldable pub wasInlined : Option SpanInfo → Bool
@@ -52,11 +48,11 @@ halves w i s = record { text = w; indentation = i; inlineBlock = s .inlineBlock;
 
 module _ (e : Env) (h : Here) (s : State) where
   pub line-comment : rule.formatLineComment e h s ≡ onText (Query.lineComment (e .room) (e .options) (levelOf s) (rule.afterLineFeed h && rule.whiteThenNoOperator h) (rule.twoAfterComma h) (h .token .value)) s
-  unfolding rule.formatLineComment Query.lineComment Query.lineAt Query.when Query.choose Query.afterComma whenS chooseS onText pushStr trimAllSpacesEnd addNewLine addNewLineInner getIndent
+  unfolding rule.formatLineComment Query.lineComment Query.lineAt when choose Query.afterComma onText pushStr trimAllSpacesEnd addNewLine addNewLineInner getIndent
   line-comment = go (rule.afterLineFeed h && rule.whiteThenNoOperator h) (rule.twoAfterComma h)
     where
       go : (b c : Bool)
-          → (s ▹ chooseS b (addNewLine e) (whenS c (λ r. r ▹ trimAllSpacesEnd ▹ pushStr e (bytes "  "))) ▹ pushStr e (h .token .value) ▹ addNewLine e)
+          → (s ▹ choose b (addNewLine e) (when c (λ r. r ▹ trimAllSpacesEnd ▹ pushStr e (bytes "  "))) ▹ pushStr e (h .token .value) ▹ addNewLine e)
           ≡ onText (Query.lineComment (e .room) (e .options) (levelOf s) b c (h .token .value)) s
       go true c = refl
       go false true = refl
@@ -66,10 +62,10 @@ module _ (e : Env) (h : Here) (s : State) where
   spacedAfter = holds (rule.kindIn (kind.Reserved ∷ kind.ReservedNewline ∷ kind.ReservedNewlineAfter ∷ [])) (rule.nextNonWhitespaceToken h)
 
   pub type-specifier : rule.formatTypeSpecifier e h s ≡ onText (Query.typeSpecifier (e .room) (h .token .value) spacedAfter) s
-  unfolding rule.formatTypeSpecifier Query.typeSpecifier Query.when Query.blank whenS onText pushStr push trimAllSpacesEnd
+  unfolding rule.formatTypeSpecifier Query.typeSpecifier when Query.blank onText pushStr push trimAllSpacesEnd
   type-specifier = go spacedAfter
     where
-      go : (b : Bool) → (s ▹ trimAllSpacesEnd ▹ pushStr e (h .token .value) ▹ whenS b (push e 32)) ≡ onText (Query.typeSpecifier (e .room) (h .token .value) b) s
+      go : (b : Bool) → (s ▹ trimAllSpacesEnd ▹ pushStr e (h .token .value) ▹ when b (push e 32)) ≡ onText (Query.typeSpecifier (e .room) (h .token .value) b) s
       go true = refl
       go false = refl
 
@@ -97,10 +93,10 @@ module _ (e : Env) (v : List ℕ) (s : State) where
   without-spaces = refl
 
   pub comma : rule.formatComma e v s ≡ onText (Query.comma (e .room) (e .options) v (rule.commaBreaks e s) (levelOf s)) s
-  unfolding rule.formatComma rule.formatWithSpaceAfter Query.comma Query.withSpaceAfter Query.blank Query.when Query.lineAt whenS onText pushStr push trimSpacesEnd addNewLine addNewLineInner getIndent
+  unfolding rule.formatComma rule.formatWithSpaceAfter Query.comma Query.withSpaceAfter Query.blank when Query.lineAt onText pushStr push trimSpacesEnd addNewLine addNewLineInner getIndent
   comma = go (rule.commaBreaks e s)
     where
-      go : (b : Bool) → (s ▹ rule.formatWithSpaceAfter e v ▹ whenS b (addNewLine e)) ≡ onText (Query.comma (e .room) (e .options) v b (levelOf s)) s
+      go : (b : Bool) → (s ▹ rule.formatWithSpaceAfter e v ▹ when b (addNewLine e)) ≡ onText (Query.comma (e .room) (e .options) v b (levelOf s)) s
       go true = refl
       go false = refl
 
@@ -118,21 +114,21 @@ module _ (e : Env) (h : Here) (s : State) where
   module _ (sp : SpanInfo) where
     -- the stacks before the word
     abbrev pub outOf : Bool → Indentation (List ℕ)
-    outOf b = whenI b decreaseTopLevel (s .indentation)
+    outOf b = when b decreaseTopLevel (s .indentation)
 
     pub top-level : rule.formatTopLevelReservedWord e h sp s
         ≡ (let out = outOf (sp .«newline_before») in
         let after = sp .«newline_after» && not (h .token .create) in
-        let into = whenI after (increaseTop sp) out in
+        let into = when after (increaseTop sp) out in
         halves (Query.topLevel (e .room) (e .options) (sp .«newline_before») (indentLevel false out) (wordOf e h) after (full (out .indentTypes)) (indentLevel false into) (s .text))
         (setPreviousTopLevel (h .token .value) sp into) s)
-    unfolding rule.formatTopLevelReservedWord rule.pushReserved rule.newTopLine Query.topLevel Query.deeper Query.lineAt Query.when Query.choose Query.blank whenI halves whenS chooseS refuseIf onText onIndentation pushStr push addNewLine addNewLineInner getIndent increaseTopLevel
+    unfolding rule.formatTopLevelReservedWord rule.pushReserved rule.newTopLine Query.topLevel Query.deeper Query.lineAt when choose Query.blank halves refuseIf onText onIndentation pushStr push addNewLine addNewLineInner getIndent increaseTopLevel
     top-level = go (sp .«newline_before») (sp .«newline_after» && not (h .token .create))
       where
         go : (b d : Bool)
-            → (s ▹ whenS b (rule.newTopLine e) ▹ rule.pushReserved e (h .token) ▹ chooseS d (λ r. r ▹ increaseTopLevel sp ▹ addNewLine e) (push e 32) ▹ onIndentation (setPreviousTopLevel (h .token .value) sp))
-            ≡ halves (Query.topLevel (e .room) (e .options) b (indentLevel false (outOf b)) (wordOf e h) d (full (outOf b .indentTypes)) (indentLevel false (whenI d (increaseTop sp) (outOf b))) (s .text))
-            (setPreviousTopLevel (h .token .value) sp (whenI d (increaseTop sp) (outOf b))) s
+            → (s ▹ when b (rule.newTopLine e) ▹ rule.pushReserved e (h .token) ▹ choose d (λ r. r ▹ increaseTopLevel sp ▹ addNewLine e) (push e 32) ▹ onIndentation (setPreviousTopLevel (h .token .value) sp))
+            ≡ halves (Query.topLevel (e .room) (e .options) b (indentLevel false (outOf b)) (wordOf e h) d (full (outOf b .indentTypes)) (indentLevel false (when d (increaseTop sp) (outOf b))) (s .text))
+            (setPreviousTopLevel (h .token .value) sp (when d (increaseTop sp) (outOf b))) s
         go true true = refl
         go true false = refl
         go false true = refl
@@ -142,11 +138,11 @@ module _ (e : Env) (h : Here) (s : State) where
         ≡ (let out = outOf (sp .«newline_before») in
         halves (Query.topLevel (e .room) (e .options) (sp .«newline_before») (indentLevel false out) (wordOf e h) (sp .«newline_after») false (indentLevel false out) (s .text))
         (setPreviousTopLevel (h .token .value) sp out) s)
-    unfolding rule.formatTopLevelReservedWordNoIndent rule.pushReserved rule.newTopLine Query.topLevel Query.deeper Query.lineAt Query.when Query.choose Query.blank whenI halves whenS chooseS onText onIndentation pushStr push addNewLine addNewLineInner getIndent
+    unfolding rule.formatTopLevelReservedWordNoIndent rule.pushReserved rule.newTopLine Query.topLevel Query.deeper Query.lineAt when choose Query.blank halves onText onIndentation pushStr push addNewLine addNewLineInner getIndent
     top-level-no-indent = go (sp .«newline_before») (sp .«newline_after»)
       where
         go : (b d : Bool)
-            → (s ▹ whenS b (rule.newTopLine e) ▹ rule.pushReserved e (h .token) ▹ chooseS d (addNewLine e) (push e 32) ▹ onIndentation (setPreviousTopLevel (h .token .value) sp))
+            → (s ▹ when b (rule.newTopLine e) ▹ rule.pushReserved e (h .token) ▹ choose d (addNewLine e) (push e 32) ▹ onIndentation (setPreviousTopLevel (h .token .value) sp))
             ≡ halves (Query.topLevel (e .room) (e .options) b (indentLevel false (outOf b)) (wordOf e h) d false (indentLevel false (outOf b)) (s .text)) (setPreviousTopLevel (h .token .value) sp (outOf b)) s
         go true true = refl
         go true false = refl
@@ -161,11 +157,11 @@ module _ (e : Env) (h : Here) (s : State) where
         let into = increaseTop sp out in
         halves (Query.newlineAfter (e .room) (e .options) breaksOut (indentLevel false out) (wordOf e h) (full (out .indentTypes)) (indentLevel false into) (s .text))
         (setPreviousTopLevel (h .token .value) sp into) s)
-    unfolding rule.formatNewlineAfterReservedWord rule.pushReserved rule.newTopLine Query.newlineAfter Query.deeper Query.oneBlank Query.lineAt Query.when Query.choose Query.blank whenI halves chooseS refuseIf onText onIndentation pushStr push trimSpacesEnd oneBlankS addNewLine addNewLineInner getIndent increaseTopLevel
+    unfolding rule.formatNewlineAfterReservedWord rule.pushReserved rule.newTopLine Query.newlineAfter Query.deeper Query.oneBlank Query.lineAt when choose Query.blank halves refuseIf onText onIndentation pushStr push trimSpacesEnd oneBlankS addNewLine addNewLineInner getIndent increaseTopLevel
     newline-after = go breaksOut
       where
         go : (b : Bool)
-            → (s ▹ chooseS b (rule.newTopLine e) (oneBlankS e) ▹ rule.pushReserved e (h .token) ▹ increaseTopLevel sp ▹ addNewLine e ▹ onIndentation (setPreviousTopLevel (h .token .value) sp))
+            → (s ▹ choose b (rule.newTopLine e) (oneBlankS e) ▹ rule.pushReserved e (h .token) ▹ increaseTopLevel sp ▹ addNewLine e ▹ onIndentation (setPreviousTopLevel (h .token .value) sp))
             ≡ halves (Query.newlineAfter (e .room) (e .options) b (indentLevel false (outOf b)) (wordOf e h) (full (outOf b .indentTypes)) (indentLevel false (increaseTop sp (outOf b))) (s .text))
             (setPreviousTopLevel (h .token .value) sp (increaseTop sp (outOf b))) s
         go true = refl
@@ -179,15 +175,15 @@ module _ (e : Env) (h : Here) (s : State) where
   -- the chain, d telling whether the word's span is pushed
   abbrev newlineChain : Bool → Bool → (State → State) → State
   newlineChain b c f =
-      s ▹ chooseS b (λ r. r ▹ f ▹ whenS c trimSpacesEnd ▹ addNewLine e) (oneBlankS e) ▹ rule.pushReserved e (h .token) ▹ push e 32 ▹ onIndentation (setPreviousReserved (h .token .value))
+      s ▹ choose b (λ r. r ▹ f ▹ when c trimSpacesEnd ▹ addNewLine e) (oneBlankS e) ▹ rule.pushReserved e (h .token) ▹ push e 32 ▹ onIndentation (setPreviousReserved (h .token .value))
 
   abbrev newlineHalves : Bool → Bool → Bool → SpanInfo → State
   newlineHalves b c d sp =
-      let into = whenI (b && d) (increaseTop sp) (s .indentation) in
+      let into = when (b && d) (increaseTop sp) (s .indentation) in
       halves (Query.newline (e .room) (e .options) b (d && full (s .indentation .indentTypes)) c (indentLevel false into) (wordOf e h) (s .text)) (setPreviousReserved (h .token .value) into) s
 
-  newline-by : (b c d : Bool) (sp : SpanInfo) → newlineChain b c (whenS d (increaseTopLevel sp)) ≡ newlineHalves b c d sp
-  unfolding rule.pushReserved Query.newline Query.newlineBreak Query.oneBlank Query.lineAt Query.when Query.choose Query.blank whenI halves whenS chooseS refuseIf onText onIndentation pushStr push trimSpacesEnd oneBlankS addNewLine addNewLineInner getIndent increaseTopLevel
+  newline-by : (b c d : Bool) (sp : SpanInfo) → newlineChain b c (when d (increaseTopLevel sp)) ≡ newlineHalves b c d sp
+  unfolding rule.pushReserved Query.newline Query.newlineBreak Query.oneBlank Query.lineAt when choose Query.blank halves refuseIf onText onIndentation pushStr push trimSpacesEnd oneBlankS addNewLine addNewLineInner getIndent increaseTopLevel
   newline-by true true true sp = refl
   newline-by true true false sp = refl
   newline-by true false true sp = refl
@@ -196,13 +192,13 @@ module _ (e : Env) (h : Here) (s : State) where
   newline-by false c false sp = refl
 
   newline-of : (b c : Bool) (o : Option SpanInfo) → newlineChain b c (rule.indentInlined o) ≡ newlineHalves b c (wasInlined o) (spanOr o)
-  unfolding rule.indentInlined wasInlined spanOr whenS
+  unfolding rule.indentInlined wasInlined spanOr when
   newline-of b c none = newline-by b c false (spanOr none)
   newline-of b c (some sp) = newline-by b c (not (sp .«newline_after»)) sp
 
   pub newline-word : rule.formatNewlineReservedWord e h s
       ≡ (let last = previousTopLevelReserved (s .indentation) in
-      let into = whenI (breaksBefore && wasInlined last) (increaseTop (spanOr last)) (s .indentation) in
+      let into = when (breaksBefore && wasInlined last) (increaseTop (spanOr last)) (s .indentation) in
       halves (Query.newline (e .room) (e .options) breaksBefore (wasInlined last && full (s .indentation .indentTypes)) (rule.afterLineComment h) (indentLevel false into) (wordOf e h) (s .text))
       (setPreviousReserved (h .token .value) into) s)
   unfolding rule.formatNewlineReservedWord
@@ -212,40 +208,40 @@ module _ (e : Env) (h : Here) (s : State) where
 
 -- steps of the state that change its text alone
 
-when-trim : (b : Bool) (s : State) → whenS b trimSpacesEnd s ≡ onText (Query.when b cutBlanks) s
-unfolding whenS trimSpacesEnd onText Query.when
+when-trim : (b : Bool) (s : State) → when b trimSpacesEnd s ≡ onText (when b cutBlanks) s
+unfolding when trimSpacesEnd onText
 when-trim true s = refl
 when-trim false s = refl
 
-when-between : (e : Env) (b : Bool) (s : State) → whenS b (oneBlankS e) s ≡ onText (Query.when b (Query.oneBlank (e .room))) s
-unfolding whenS oneBlankS trimSpacesEnd push pushStr onText Query.when Query.oneBlank Query.blank
+when-between : (e : Env) (b : Bool) (s : State) → when b (oneBlankS e) s ≡ onText (when b (Query.oneBlank (e .room))) s
+unfolding when oneBlankS trimSpacesEnd push pushStr onText Query.oneBlank Query.blank
 when-between e true s = refl
 when-between e false s = refl
 
-when-folded : (e : Env) (b : Bool) (s : State) → whenS b (λ r. r ▹ trimAllSpacesEnd ▹ push e 32) s ≡ onText (Query.when b (Query.fold (e .room))) s
-unfolding whenS trimAllSpacesEnd push pushStr onText Query.when Query.fold Query.blank
+when-folded : (e : Env) (b : Bool) (s : State) → when b (λ r. r ▹ trimAllSpacesEnd ▹ push e 32) s ≡ onText (when b (Query.fold (e .room))) s
+unfolding when trimAllSpacesEnd push pushStr onText Query.fold Query.blank
 when-folded e true s = refl
 when-folded e false s = refl
 
-after-bracket : (e : Env) (i k : Bool) (s : State) → chooseS (not i) (addNewLine e) (whenS k (push e 32)) s ≡ onText (Query.afterOpening (e .room) (e .options) i k (levelOf s)) s
-unfolding whenS chooseS addNewLine addNewLineInner getIndent push pushStr onText Query.when Query.choose Query.afterOpening Query.lineAt Query.blank
+after-bracket : (e : Env) (i k : Bool) (s : State) → choose (not i) (addNewLine e) (when k (push e 32)) s ≡ onText (Query.afterOpening (e .room) (e .options) i k (levelOf s)) s
+unfolding when choose addNewLine addNewLineInner getIndent push pushStr onText Query.afterOpening Query.lineAt Query.blank
 after-bracket e true true s = refl
 after-bracket e true false s = refl
 after-bracket e false k s = refl
 
 close-inline : (e : Env) (k : Bool) (v : List ℕ) (s : State)
-    → chooseS k (λ q. q ▹ oneBlankS e ▹ rule.formatWithSpaces e v) (rule.formatWithSpaceAfter e v) s ≡ onText (Query.closingInline (e .room) k v) s
-unfolding chooseS oneBlankS trimSpacesEnd push pushStr onText rule.formatWithSpaces rule.formatWithSpaceAfter Query.closingInline Query.choose Query.oneBlank Query.withSpaces Query.withSpaceAfter Query.blank
+    → choose k (λ q. q ▹ oneBlankS e ▹ rule.formatWithSpaces e v) (rule.formatWithSpaceAfter e v) s ≡ onText (Query.closingInline (e .room) k v) s
+unfolding choose oneBlankS trimSpacesEnd push pushStr onText rule.formatWithSpaces rule.formatWithSpaceAfter Query.closingInline Query.oneBlank Query.withSpaces Query.withSpaceAfter Query.blank
 close-inline e true v s = refl
 close-inline e false v s = refl
 
 close-by : (e : Env) (closed : Closed (List ℕ)) (v : List ℕ) (s : State) (a k : Bool)
     → (s ▹ onBlockLevel (λ n. n - 1) ▹ onIndentation (λ i. closed .left)
-    ▹ chooseS a (λ r. r ▹ onInlineBlock tail ▹ chooseS k (λ q. q ▹ oneBlankS e ▹ rule.formatWithSpaces e v) (rule.formatWithSpaceAfter e v))
+    ▹ choose a (λ r. r ▹ onInlineBlock tail ▹ choose k (λ q. q ▹ oneBlankS e ▹ rule.formatWithSpaces e v) (rule.formatWithSpaceAfter e v))
     (λ r. r ▹ refuseIf (closed .folded && (not (e .options .inline) && eqb (unfolded (closed .left .indentTypes)) 0)) 8 ▹ addNewLineInner e (closed .folded) ▹ rule.formatWithSpaces e v))
     ≡ record {
       text =
-          Query.choose a (Query.closingInline (e .room) k v)
+          choose a (Query.closingInline (e .room) k v)
           (Query.closing (e .room) (e .options) (closed .folded && (not (e .options .inline) && eqb (unfolded (closed .left .indentTypes)) 0)) (indentLevel (closed .folded) (closed .left)) v)
           (s .text);
       indentation = closed .left;
@@ -253,14 +249,14 @@ close-by : (e : Env) (closed : Closed (List ℕ)) (v : List ℕ) (s : State) (a 
       blockLevel = s .blockLevel - 1;
       index = s .index;
     }
-unfolding chooseS onText onIndentation onInlineBlock onBlockLevel refuseIf addNewLineInner getIndent pushStr push rule.formatWithSpaces Query.choose Query.closing Query.withSpaces Query.when Query.lineAt Query.blank
+unfolding choose onText onIndentation onInlineBlock onBlockLevel refuseIf addNewLineInner getIndent pushStr push rule.formatWithSpaces Query.closing Query.withSpaces when Query.lineAt Query.blank
 close-by e closed v s true k = close-inline e k v _
 close-by e closed v s false k = refl
 
 -- the counter moves where b holds
 when-index : (b : Bool) (s : State)
-    → whenS b (onIndex suc) s ≡ record { text = s .text; indentation = s .indentation; inlineBlock = s .inlineBlock; blockLevel = s .blockLevel; index = if b then suc (s .index) else s .index }
-unfolding whenS onIndex
+    → when b (onIndex suc) s ≡ record { text = s .text; indentation = s .indentation; inlineBlock = s .inlineBlock; blockLevel = s .blockLevel; index = if b then suc (s .index) else s .index }
+unfolding when onIndex
 when-index true s = refl
 when-index false s = refl
 
@@ -280,7 +276,7 @@ module _ (e : Env) (h : Here) (s : State) where
         blockLevel = suc (s .blockLevel);
         index = s .index;
       })
-  unfolding rule.formatOpeningParentheses Query.beforeOpening onText onIndentation onInlineBlock onBlockLevel refuseIf pushStr Query.when
+  unfolding rule.formatOpeningParentheses Query.beforeOpening onText onIndentation onInlineBlock onBlockLevel refuseIf pushStr when
   opening info = rw (when-trim, when-between e, when-folded e, after-bracket e)
 
   pub closing : rule.formatClosingParentheses e h s
@@ -289,7 +285,7 @@ module _ (e : Env) (h : Here) (s : State) where
       let eight = closed .folded && (not (e .options .inline) && eqb (unfolded (closed .left .indentTypes)) 0) in
       record {
         text =
-            Query.choose active (Query.closingInline (e .room) (isLower (bracketOf e h) (bytes "end")) (bracketOf e h))
+            choose active (Query.closingInline (e .room) (isLower (bracketOf e h) (bytes "end")) (bracketOf e h))
             (Query.closing (e .room) (e .options) eight (indentLevel (closed .folded) (closed .left)) (bracketOf e h))
             (s .text);
         indentation = closed .left;
@@ -308,5 +304,5 @@ module _ (e : Env) (h : Here) (s : State) where
         blockLevel = s .blockLevel;
         index = if advances (e .params) (h .token .key) then suc (s .index) else s .index;
       }
-  unfolding rule.formatPlaceholder Query.placeholder Query.withSpaces Query.when Query.blank refuseIf onText pushStr push
+  unfolding rule.formatPlaceholder Query.placeholder Query.withSpaces when Query.blank refuseIf onText pushStr push
   placeholder = when-index (advances (e .params) (h .token .key)) _

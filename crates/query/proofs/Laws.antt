@@ -9,7 +9,8 @@ use Rattle.rules.specs.Text.{Text, append}
 use Rattle.text.specs.declared.Text.{Text as Code}
 use Rattle.text.specs.Held.{textOf, Held, Laid}
 use Rattle.text.proofs.HeldLaws.{laid-same, onward}
-use Rattle.query.specs.Query.{when, choose, lineAt, blank, withSpaces}
+use Rattle.query.specs.Query.{lineAt, blank, withSpaces}
+use Rattle.rules.specs.Base.{choose, when}
 
 -- ---- a test
 

@@ -4,15 +4,9 @@ use mathlib.Core.List.{List, [], _∷_}
 use Prim.Native.Nat.{ℕ}
 use lib.ListN.{replicate}
 use Rattle.rules.specs.declared.FormatOptions.{FormatOptions}
-use Rattle.rules.specs.Base.{if_then_else_, _▹_}
+use Rattle.rules.specs.Base.{_▹_, choose, when}
 use Rattle.rules.specs.Bytes.{bytes}
 use Rattle.rules.specs.Text.{Text, append, refuse, cutBlanks, cutWhite, indentOf, indentComment, newLine}
-
-unfoldable pub when : Bool → (Text → Text) → Text → Text
-when b f w = if b then f w else w
-
-unfoldable pub choose : Bool → (Text → Text) → (Text → Text) → Text → Text
-choose b f g w = if b then f w else g w
 
 -- a new line at a level
 unfoldable pub lineAt : ℕ → FormatOptions → ℕ → Text → Text

@@ -6,7 +6,8 @@ ghost use lib.ListN.{length};
 ghost use Rattle.rules.specs.Text.{cutBlanks, append, refuse as refusedWith};
 ghost use Rattle.ascii.specs.Part.{part};
 ghost use Rattle.text.specs.Held.{textOf, Held, Laid};
-ghost use Rattle.query.specs.Query.{when, choose, lineAt, blank, afterComma, lineComment, typeSpecifier, blockComment, withSpaces, withSpaceAfter, withoutSpaces, comma as commaOf, separator, placeholder};
+ghost use Rattle.query.specs.Query.{lineAt, blank, afterComma, lineComment, typeSpecifier, blockComment, withSpaces, withSpaceAfter, withoutSpaces, comma as commaOf, separator, placeholder};
+ghost use Rattle.rules.specs.Base.{choose, when};
 use rules::FormatOptions;
 use text::Text;
 

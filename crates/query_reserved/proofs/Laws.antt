@@ -8,7 +8,8 @@ use Rattle.rules.specs.Text.{Text}
 use Rattle.text.specs.declared.Text.{Text as Code}
 use Rattle.text.specs.Held.{textOf, Laid}
 use Rattle.text.proofs.HeldLaws.{onward}
-use Rattle.query.specs.Query.{choose, deeper, blank}
+use Rattle.query.specs.Query.{deeper, blank}
+use Rattle.rules.specs.Base.{choose}
 
 module _ {cap : ℕ} {w : Text} {t u : Code} {d r : List ℕ} (o : FormatOptions) (six : Bool) (into : ℕ) where
   pub then-deeper : Laid (length d) (deeper (length d) o six into (textOf t d)) u r → Laid cap w t d → Laid cap (deeper cap o six into w) u r

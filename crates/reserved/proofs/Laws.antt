@@ -40,27 +40,28 @@ use Rattle.state.specs.Below.{Below, below-up, top-below, reserved-below}
 use Rattle.state.specs.Of.{valueIn, wordOf, stateOf, withIndentation, Known, Ready, envIn, hereIn, Handled}
 use Rattle.state.proofs.Laws.{by-halves, value-is}
 use Rattle.reserved.specs.declared.Newline.{Newline}
-use Rattle.reserved.specs.Inlined.{whenI, indentLast, sixIn, indentedIn, Indented}
+use Rattle.reserved.specs.Inlined.{indentLast, sixIn, indentedIn, Indented}
+use Rattle.rules.specs.Base.{when}
 
 -- ---- where a test holds
 
 module _ (b : Bool) (f : Indentation ℕ → Indentation ℕ) (i : Counts) (m : List ℕ) where
-  pub stands-then : (r : Counts) (q : List ℕ) → b ≡ true → Stands (f (indentationOf i m)) m r q → Stands (whenI b f (indentationOf i m)) m r q
-  unfolding whenI
+  pub stands-then : (r : Counts) (q : List ℕ) → b ≡ true → Stands (f (indentationOf i m)) m r q → Stands (when b f (indentationOf i m)) m r q
+  unfolding when
   stands-then r q h s = rw h s
 
-  pub stands-else : b ≡ false → Clean i m → Stands (whenI b f (indentationOf i m)) m i m
-  unfolding whenI
+  pub stands-else : b ≡ false → Clean i m → Stands (when b f (indentationOf i m)) m i m
+  unfolding when
   stands-else h c = rw h (record { is = refl; clean = c; above = λ k a. refl })
 
 module _ (f : Indentation ℕ → Indentation ℕ) (i : Indentation ℕ) where
-  pub when-below : (k : ℕ) (b : Bool) → Below k i → Below k (f i) → Below k (whenI b f i)
-  unfolding whenI
+  pub when-below : (k : ℕ) (b : Bool) → Below k i → Below k (f i) → Below k (when b f i)
+  unfolding when
   when-below k true p q = q
   when-below k false p q = p
 
-  pub when-words : (w : ℕ → List ℕ) (b : Bool) (g : Indentation (List ℕ) → Indentation (List ℕ)) → onWords w (f i) ≡ g (onWords w i) → onWords w (whenI b f i) ≡ halves.whenI b g (onWords w i)
-  unfolding whenI halves.whenI
+  pub when-words : (w : ℕ → List ℕ) (b : Bool) (g : Indentation (List ℕ) → Indentation (List ℕ)) → onWords w (f i) ≡ g (onWords w i) → onWords w (when b f i) ≡ when b g (onWords w i)
+  unfolding when
   when-words w true g e = e
   when-words w false g e = refl
 
@@ -87,8 +88,8 @@ module _ (i : Indentation ℕ) where
   last-below k (some sp) p = when-below (increaseTopLevel sp) i k (not (sp .«newline_after»)) p (top-below k i p sp)
 
   inlined-words : (w : ℕ → List ℕ) (b : Bool) (o : Option SpanInfo)
-      → onWords w (whenI b (indentLast o) i) ≡ halves.whenI (b && halves.wasInlined o) (increaseTopLevel (halves.spanOr o)) (onWords w i)
-  unfolding whenI indentLast halves.whenI halves.wasInlined halves.spanOr
+      → onWords w (when b (indentLast o) i) ≡ when (b && halves.wasInlined o) (increaseTopLevel (halves.spanOr o)) (onWords w i)
+  unfolding when indentLast halves.wasInlined halves.spanOr
   inlined-words w false o = refl
   inlined-words w true none = refl
   inlined-words w true (some sp) = when-words (increaseTopLevel sp) i w (not (sp .«newline_after»)) (increaseTopLevel sp) (top-words w sp i)
@@ -100,13 +101,13 @@ six-is (some sp) b = refl
 
 -- the last top-level word, as the code holds it
 module _ (b : Bool) (last : TopLevel) (i : Counts) (m : List ℕ) (h : b ≡ true) where
-  pub inlined-none : last ≡ top.Nothing → Clean i m → Stands (whenI b (indentLast (spanIn last)) (indentationOf i m)) m i m
-  unfolding whenI indentLast spanIn
+  pub inlined-none : last ≡ top.Nothing → Clean i m → Stands (when b (indentLast (spanIn last)) (indentationOf i m)) m i m
+  unfolding when indentLast spanIn
   inlined-none e c = rw (h, e) (record { is = refl; clean = c; above = λ k a. refl })
 
-  pub inlined-span : (sp : SpanInfo) (r : Counts) (q : List ℕ) → last ≡ top.Span sp → Stands (whenI (not (sp .«newline_after»)) (increaseTopLevel sp) (indentationOf i m)) m r q
-      → Stands (whenI b (indentLast (spanIn last)) (indentationOf i m)) m r q
-  unfolding whenI indentLast spanIn
+  pub inlined-span : (sp : SpanInfo) (r : Counts) (q : List ℕ) → last ≡ top.Span sp → Stands (when (not (sp .«newline_after»)) (increaseTopLevel sp) (indentationOf i m)) m r q
+      → Stands (when b (indentLast (spanIn last)) (indentationOf i m)) m r q
+  unfolding when indentLast spanIn
   inlined-span sp r q e s = rw (h, e) s
 
 pub six-none : (last : TopLevel) (b : Bool) → last ≡ top.Nothing → false ≡ sixIn (spanIn last) b
@@ -122,7 +123,7 @@ unfolding sixIn spanIn
 six-inlined last b sp e h = rw (e, h)
 
 pub by-indented : (i : Counts) (m : List ℕ) (breaks : Bool) (n : ℕ) (last : TopLevel) (to : Counts) (p : List ℕ) (noted : Counts) (q : List ℕ) (f six : Bool) (level : ℕ) → Clean i m → spanIn last ≡ previousTopLevelReserved (indentationOf i m)
-    → Stands (whenI breaks (indentLast (spanIn last)) (indentationOf i m)) m to p → Stands (setPreviousReserved n (indentationOf to p)) p noted q → f ≡ leb 128 (i .nkinds) → six ≡ sixIn (spanIn last) f
+    → Stands (when breaks (indentLast (spanIn last)) (indentationOf i m)) m to p → Stands (setPreviousReserved n (indentationOf to p)) p noted q → f ≡ leb 128 (i .nkinds) → six ≡ sixIn (spanIn last) f
     → (level ≡ indentLevel false (indentationOf to p)) × (level ≤ 128) → Indented (indentationOf i m) breaks n m (record { six = six; level = level; indentation = noted }) q
 by-indented i m breaks n last to p noted q f six level c hl ht hn hf hs hv =
     record { six = hs ∙ rw (hl, hf, full-is i m c); level = hv .0 ∙ rw (ht .is, hl); low = hv .1; stands = onward _ _ m p q to noted ht (rw (← hl, ← ht .is) hn) }

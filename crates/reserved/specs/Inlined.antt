@@ -5,20 +5,16 @@ use mathlib.Core.Option.{Option, none, some}
 use mathlib.Core.List.{List}
 use Prim.Native.Nat.{ℕ, _≤_}
 use Rattle.rules.specs.declared.SpanInfo.{SpanInfo}
-use Rattle.rules.specs.Base.{if_then_else_}
+use Rattle.rules.specs.Base.{when}
 use Rattle.rules.specs.InlineBlock.{full}
 use Rattle.rules.specs.Indentation.{Indentation, indentLevel, increaseTopLevel, setPreviousReserved, previousTopLevelReserved}
 use Rattle.indentation.specs.Of.{Stands}
 use Rattle.reserved.specs.declared.Newline.{Newline}
 
--- f where b holds, whatever stands for a word
-unfoldable pub whenI : {W : Type 0} → Bool → (Indentation W → Indentation W) → Indentation W → Indentation W
-whenI b f i = if b then f i else i
-
 -- the last top-level word's span is pushed where it was inlined
 unfoldable pub indentLast : {W : Type 0} → Option SpanInfo → Indentation W → Indentation W
 indentLast none i = i
-indentLast (some sp) i = whenI (not (sp .«newline_after»)) (increaseTopLevel sp) i
+indentLast (some sp) i = when (not (sp .«newline_after»)) (increaseTopLevel sp) i
 
 -- refusal 6 is given where there is such a word, and the stack is full
 unfoldable pub sixIn : Option SpanInfo → Bool → Bool
@@ -26,7 +22,7 @@ sixIn none full = false
 sixIn (some sp) full = not (sp .«newline_after») && full
 
 abbrev pub indentedIn : {W : Type 0} → Bool → Indentation W → Indentation W
-indentedIn breaks i = whenI breaks (indentLast (previousTopLevelReserved i)) i
+indentedIn breaks i = when breaks (indentLast (previousTopLevelReserved i)) i
 
 -- the newline word is n; m is the memory before, q after
 pub record Indented (i : Indentation ℕ) (breaks : Bool) (n : ℕ) (m : List ℕ) (r : Newline) (q : List ℕ) : Type 0 where

@@ -7,7 +7,8 @@ ghost use Rattle.rules.specs.Formatter.{overLimit, formatNewlineReservedWord, f
 ghost use Rattle.indentation.specs.Of.{spanIn, indentationOf, Clean, Stands};
 ghost use Rattle.keeps.specs.CaseOf.{caseOf};
 ghost use Rattle.state.specs.Of.{Known, Ready, Handled, wordOf};
-ghost use Rattle.reserved.specs.Inlined.{whenI, indentLast, sixIn, Indented};
+ghost use Rattle.reserved.specs.Inlined.{indentLast, sixIn, Indented};
+ghost use Rattle.rules.specs.Base.{when};
 use around::after_line_comment;
 use indentation::Indentation;
 use indentation::TopLevel;
@@ -46,7 +47,7 @@ pub fn increase_if(
     span: SpanInfo,
 ) -> Indentation
     requires { ⌜ Clean indentation (now stacks) ⌝ }
-    ensures { λ r. ⌜ Stands (whenI b (increaseTopLevel span) (indentationOf indentation (now (stacks .entry)))) (now (stacks .entry)) r (now (stacks .exit)) ⌝ }
+    ensures { λ r. ⌜ Stands (when b (increaseTopLevel span) (indentationOf indentation (now (stacks .entry)))) (now (stacks .entry)) r (now (stacks .exit)) ⌝ }
 {
     if b {
         return indentation.increase_top_level(stacks, span);
@@ -85,7 +86,7 @@ fn indent_inlined(
     last: TopLevel,
 ) -> Indentation
     requires { ⌜ Clean indentation (now stacks) ⌝ }
-    ensures { λ r. ⌜ Stands (whenI breaks (indentLast (spanIn last)) (indentationOf indentation (now (stacks .entry)))) (now (stacks .entry)) r (now (stacks .exit)) ⌝ }
+    ensures { λ r. ⌜ Stands (when breaks (indentLast (spanIn last)) (indentationOf indentation (now (stacks .entry)))) (now (stacks .entry)) r (now (stacks .exit)) ⌝ }
 {
     if breaks {
         return match last {

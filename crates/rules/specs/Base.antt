@@ -17,6 +17,13 @@ if_then_else_ false a b = b
 abbrev pub _▹_ {ℓ κ} : {A : Type ℓ} {B : Type κ} → A → (A → B) → B
 _▹_ a f = f a
 
+-- f where b holds, else g; f where b holds
+unfoldable pub choose : {A : Type 0} → Bool → (A → A) → (A → A) → A → A
+choose b f g a = if b then f a else g a
+
+unfoldable pub when : {A : Type 0} → Bool → (A → A) → A → A
+when b f a = if b then f a else a
+
 -- two values are the same
 abbrev pub same : List ℕ → List ℕ → Bool
 same [] [] = true

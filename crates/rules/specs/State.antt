@@ -36,13 +36,6 @@ onBlockLevel f s = record { text = s .text; indentation = s .indentation; inline
 unfoldable pub onIndex : (ℕ → ℕ) → State → State
 onIndex f s = record { text = s .text; indentation = s .indentation; inlineBlock = s .inlineBlock; blockLevel = s .blockLevel; index = f (s .index) }
 
--- f where b holds, else g; f where b holds
-unfoldable pub choose : Bool → (State → State) → (State → State) → State → State
-choose b f g s = if b then f s else g s
-
-unfoldable pub when : Bool → (State → State) → State → State
-when b f s = if b then f s else s
-
 unfoldable pub refuseIf : Bool → ℕ → State → State
 refuseIf b n s = onText (λ w. if b then refuse n w else w) s
 

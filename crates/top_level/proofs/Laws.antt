@@ -38,15 +38,15 @@ use Rattle.state.specs.Words.{onWords, top-words, untop-words, top-level-words,
 use Rattle.state.specs.Below.{Below, below-up, top-below, untop-below, top-level-below}
 use Rattle.state.specs.Of.{valueIn, wordOf, stateOf, withIndentation, Known, Ready, envIn, hereIn, Handled}
 use Rattle.state.proofs.Laws.{by-halves}
-use Rattle.reserved.specs.Inlined.{whenI}
 use Rattle.reserved.proofs.Laws.{when-below, when-words, level-words, full-words, written, word-is}
 use Rattle.top_level.specs.declared.Levels.{Levels}
 use Rattle.top_level.specs.Levels.{onSpan, outOf, intoOf, Turned}
+use Rattle.rules.specs.Base.{when}
 
 -- ---- the stacks around the word
 
 pub by-turned : (i : Counts) (m : List ℕ) (before after : Bool) (sp : SpanInfo) (n : ℕ) (from : Counts) (p : List ℕ) (to : Counts) (o : List ℕ) (noted : Counts) (q : List ℕ) (out into : ℕ) (six : Bool)
-    → Stands (whenI before decreaseTopLevel (indentationOf i m)) m from p → Stands (whenI after (increaseTopLevel sp) (indentationOf from p)) p to o → Stands (setPreviousTopLevel n sp (indentationOf to o)) o noted q
+    → Stands (when before decreaseTopLevel (indentationOf i m)) m from p → Stands (when after (increaseTopLevel sp) (indentationOf from p)) p to o → Stands (setPreviousTopLevel n sp (indentationOf to o)) o noted q
     → (out ≡ indentLevel false (indentationOf from p)) × (out ≤ 128) → six ≡ leb 128 (from .nkinds) → (into ≡ indentLevel false (indentationOf to o)) × (into ≤ 128)
     → Turned (indentationOf i m) before after sp n m (record { out = out; six = six; into = into; indentation = noted }) q
 by-turned i m before after sp n from p to o noted q out into six hf ht hn ho hs hi =
@@ -60,10 +60,10 @@ by-turned i m before after sp n from p to o noted q out into six hf ht hn ho hs 
     }
 
 module _ (i : Indentation ℕ) (before after : Bool) (sp : SpanInfo) where
-  out-words : (w : ℕ → List ℕ) → onWords w (outOf before i) ≡ halves.whenI before decreaseTopLevel (onWords w i)
+  out-words : (w : ℕ → List ℕ) → onWords w (outOf before i) ≡ when before decreaseTopLevel (onWords w i)
   out-words w = when-words decreaseTopLevel i w before decreaseTopLevel (untop-words w i)
 
-  into-words : (w : ℕ → List ℕ) → onWords w (intoOf before after sp i) ≡ halves.whenI after (increaseTopLevel sp) (halves.whenI before decreaseTopLevel (onWords w i))
+  into-words : (w : ℕ → List ℕ) → onWords w (intoOf before after sp i) ≡ when after (increaseTopLevel sp) (when before decreaseTopLevel (onWords w i))
   into-words w = when-words (increaseTopLevel sp) (outOf before i) w after (increaseTopLevel sp) (top-words w sp (outOf before i)) ∙ rw (out-words w)
 
   into-below : (k : ℕ) → Below k i → Below k (intoOf before after sp i)
@@ -125,10 +125,10 @@ module _ (s : List ℕ) (x : Context) (i : ℕ) (st : Code) (m d : List ℕ) (re
   -- what the handler reads of its levels, in the rules' words
   module _ (before after : Bool) (l : Levels) (told : Turned stacks before after sp i m l p) where
     abbrev out : Indentation (List ℕ)
-    out = halves.whenI before decreaseTopLevel (onWords (wordOf s (x .base)) stacks)
+    out = when before decreaseTopLevel (onWords (wordOf s (x .base)) stacks)
 
     abbrev into : Indentation (List ℕ)
-    into = halves.whenI after (increaseTopLevel sp) out
+    into = when after (increaseTopLevel sp) out
 
     out-is : l .out ≡ indentLevel false out
     out-is = told .out ∙ rw (level-words (wordOf s (x .base)) (outOf before stacks), out-words stacks before after sp (wordOf s (x .base)))
@@ -155,7 +155,7 @@ module _ (s : List ℕ) (x : Context) (i : ℕ) (st : Code) (m d : List ℕ) (re
   pub by-no-indent : (l : Levels) → Turned stacks (sp .«newline_before») false sp i m l p
       → Laid (length d) (Query.topLevel (length d) (x .options) (sp .«newline_before») (l .out) word (sp .«newline_after») false (l .into) (textOf (st .text) d)) t q → r ≡ withIndentation st t (l .indentation)
       → Handled s x i (onSpan formatTopLevelReservedWordNoIndent) st m d r p q
-  unfolding envOf stateOf halves.whenI
+  unfolding envOf stateOf when
   by-no-indent l told laid y =
       let b = sp .«newline_before» in
       by-span formatTopLevelReservedWordNoIndent b false l (Query.topLevel (length d) (x .options) b (l .out) word (sp .«newline_after») false (l .into) (textOf (st .text) d)) told laid y
@@ -166,7 +166,7 @@ module _ (s : List ℕ) (x : Context) (i : ℕ) (st : Code) (m d : List ℕ) (re
       → before ≡ newlineBefore (x .options .«max_inline_top_level») (spanIn last) n → Turned stacks before true sp i m l p
       → Laid (length d) (Query.newlineAfter (length d) (x .options) before (l .out) word (l .six) (l .into) (textOf (st .text) d)) t q → r ≡ withIndentation st t (l .indentation)
       → Handled s x i (onSpan formatNewlineAfterReservedWord) st m d r p q
-  unfolding envOf stateOf halves.whenI
+  unfolding envOf stateOf when
   by-newline-after last n before l hn hl hb told laid y =
       by-span formatNewlineAfterReservedWord before true l (Query.newlineAfter (length d) (x .options) before (l .out) word (l .six) (l .into) (textOf (st .text) d)) told laid y
       (rw (out-is before true l told, six-is before true l told, into-is before true l told, noted-is before true l told, word-is s x i (ready .known) v ev k ek (length d), hb, hn, hl, ← last-top-level (wordOf s (x .base)) stacks, ready .known .options)

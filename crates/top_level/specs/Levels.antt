@@ -11,8 +11,8 @@ use Rattle.rules.specs.Sheet.{Env}
 use Rattle.rules.specs.State.{State}
 use Rattle.rules.specs.Formatter.{spanInfo}
 use Rattle.indentation.specs.Of.{Stands}
-use Rattle.reserved.specs.Inlined.{whenI}
 use Rattle.top_level.specs.declared.Levels.{Levels}
+use Rattle.rules.specs.Base.{when}
 
 -- a handler that reads the word's span ahead
 abbrev pub onSpan : (Env → Here → SpanInfo → State → State) → Env → Here → State → State
@@ -20,10 +20,10 @@ onSpan f e h s = f e h (spanInfo e h s) s
 
 -- the stacks before the word, and after it
 abbrev pub outOf : {W : Type 0} → Bool → Indentation W → Indentation W
-outOf before i = whenI before decreaseTopLevel i
+outOf before i = when before decreaseTopLevel i
 
 abbrev pub intoOf : {W : Type 0} → Bool → Bool → SpanInfo → Indentation W → Indentation W
-intoOf before after sp i = whenI after (increaseTopLevel sp) (outOf before i)
+intoOf before after sp i = when after (increaseTopLevel sp) (outOf before i)
 
 -- the word is n; m is the memory before, q after
 pub record Turned (i : Indentation ℕ) (before after : Bool) (sp : SpanInfo) (n : ℕ) (m : List ℕ) (r : Levels) (q : List ℕ) : Type 0 where

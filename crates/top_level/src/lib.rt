@@ -10,8 +10,8 @@ ghost use Rattle.rules.specs.Indentation.{decreaseTopLevel};
 ghost use Rattle.rules.specs.Formatter.{newlineBefore, formatTopLevelReservedWord, formatTopLevelReservedWordNoIndent, formatNewlineAfterReservedWord};
 ghost use Rattle.indentation.specs.Of.{spanIn, indentationOf, Clean, Stands};
 ghost use Rattle.state.specs.Of.{Known, Ready, Handled, hereIn};
-ghost use Rattle.reserved.specs.Inlined.{whenI};
 ghost use Rattle.top_level.specs.Levels.{onSpan, Turned};
+ghost use Rattle.rules.specs.Base.{when};
 use ahead::top_level_tokens_info;
 use around::value_len;
 use indentation::Indentation;
@@ -48,7 +48,7 @@ fn span_info(sheet: &[u8], x: Context, i: usize, level: u32, block_len: u32) -> 
 
 fn decrease_if(stacks: &mut [u32], indentation: Indentation, b: bool) -> Indentation
     requires { ⌜ Clean indentation (now stacks) ⌝ }
-    ensures { λ r. ⌜ Stands (whenI b decreaseTopLevel (indentationOf indentation (now (stacks .entry)))) (now (stacks .entry)) r (now (stacks .exit)) ⌝ }
+    ensures { λ r. ⌜ Stands (when b decreaseTopLevel (indentationOf indentation (now (stacks .entry)))) (now (stacks .entry)) r (now (stacks .exit)) ⌝ }
 {
     if b {
         return indentation.decrease_top_level(stacks);

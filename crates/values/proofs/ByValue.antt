@@ -5,10 +5,10 @@ use mathlib.Core.List.{List}
 use Prim.Native.Nat.{ℕ}
 use Prim.Native.String.{String}
 use lib.ListN.{length}
-use Rattle.rules.specs.Base.{same}
+use Rattle.rules.specs.Base.{same, choose}
 use Rattle.rules.specs.Bytes.{bytes}
 use Rattle.rules.specs.Sheet.{Env}
-use Rattle.rules.specs.State.{State, choose}
+use Rattle.rules.specs.State.{State}
 use Rattle.rules.specs.Formatter.{formatWithSpaces, formatWithSpaceAfter, formatWithoutSpaces, formatComma, formatQuerySeparator, formatByValue}
 use Rattle.state.specs.declared.State.{State as Code}
 use Rattle.state.specs.declared.Context.{Context}

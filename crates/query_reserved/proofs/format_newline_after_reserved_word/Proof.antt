@@ -1,9 +1,10 @@
 use borrow.Author.Needs.{needs}
-use Rattle.query.specs.Query.{when, newlineAfter, newlineBreak}
+use Rattle.query.specs.Query.{newlineAfter, newlineBreak}
 use Rattle.query.proofs.Laws.{then-append}
 use Rattle.query_reserved.proofs.Laws.{then-deeper}
 use Rattle.query_reserved.proofs.format_newline_after_reserved_word.Statement.{statement}
 use Rattle.query_reserved.proofs.format_newline_after_reserved_word.Tie as tie
+use Rattle.rules.specs.Base.{when}
 
 break-or-blank-requires : tie.Need-break-or-blank-requires
 break-or-blank-requires c κs = search needs
