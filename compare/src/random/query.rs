@@ -11,12 +11,14 @@ struct Stream<'d> {
     tokens: Vec<Token>,
     upper: bool,
     most: usize,
+    /// Some comments switch the layout off and on.
+    switches: bool,
 }
 
 pub fn tokens(dice: &mut Dice, size: Size) -> Vec<Token> {
     let most = if size == Size::Table { 10 } else { 20 + dice.below(120) };
     let upper = dice.one_in(2);
-    let mut stream = Stream { dice, tokens: Vec::new(), upper, most };
+    let mut stream = Stream { dice, tokens: Vec::new(), upper, most, switches: true };
     for _ in 0..1 + stream.dice.below(2) {
         stream.statement(0);
         if stream.dice.one_in(2) {
@@ -44,7 +46,7 @@ impl Stream<'_> {
         if self.dice.one_in(25) {
             let comments = ["-- note", "-- fmt: off", "-- fmt: on", "--x"];
             let comment = self.dice.pick(&comments);
-            self.put(LINE_COMMENT, comment);
+            self.put(LINE_COMMENT, if self.switches { comment } else { comments[0] });
             self.put(WHITESPACE, "\n");
         } else if self.dice.one_in(40) {
             self.put(BLOCK_COMMENT, "/* one\n   two */");

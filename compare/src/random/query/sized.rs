@@ -15,7 +15,8 @@ pub fn deep(dice: &mut Dice, size: usize) -> Vec<Token> {
 }
 
 fn repeated(dice: &mut Dice, size: usize, query: impl Fn(&mut Stream)) -> Vec<Token> {
-    let mut stream = Stream { dice, tokens: Vec::new(), upper: true, most: size };
+    // A switch would have half of a long sheet copied as it is.
+    let mut stream = Stream { dice, tokens: Vec::new(), upper: true, most: size, switches: false };
     while !stream.full() {
         query(&mut stream);
         stream.put(OPERATOR, ";");
