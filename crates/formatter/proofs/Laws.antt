@@ -2,7 +2,7 @@
 use mathlib.Core.Path.{_≡_, refl, sym, ap, _∙_}
 use mathlib.Core.Bool.{Bool}
 use mathlib.Core.List.{List, []}
-use Prim.Native.Nat.{ℕ, _+_, _-_, _*_, _≤_, _<_}
+use Prim.Native.Nat.{ℕ, _+_, _-_, _≤_, _<_}
 use native.Mathlib.Omega.{arith}
 use mathlib.Core.Logic.{⊎-elim}
 use lib.ListN.{length, take, drop, replicate, getD, getD-replicate, length-replicate, List·getD-eq-default}
@@ -54,10 +54,7 @@ unfolding noStacks
 no-long = length-replicate {A = ℕ} 1287 0
 
 no-stacks : stacks.Stands noIndentation noStacks stacks.noCounts noStacks
-no-stacks =
-    by-zero noStacks noStacks
-    (record { long = no-long; flags = λ k h. record { before = rw (no-words (256 + 7 * k + 2)) (omega arith); after = rw (no-words (256 + 7 * k + 3)) (omega arith); top = rw (no-words (256 + 7 * k + 6)) (omega arith) } })
-    refl (λ k h. no-words k) stacks.noCounts refl (λ k h. refl)
+no-stacks = by-zero noStacks noStacks no-long refl (λ k h. no-words k) stacks.noCounts refl (λ k h. refl)
 
 no-blocks : block.Stands [] noStacks block.noBlocks noStacks
 no-blocks = by-new noStacks no-long (λ k h. no-words (1159 + k))

@@ -22,6 +22,7 @@ use Rattle.stacks.specs.Laws.{length-stack, stack-push, stack-put, stack-pop, s
 use Rattle.previous.specs.declared.Previous.{Previous}
 use Rattle.indentation.specs.Stacks.{Stacks as Code, ClosedStacks as CodeClosed, typeOf, kindFor, weightOf, typesOf, indentationOf, lastOf, tops, endsTop, Clean, Stands, StandsClosed}
 use Rattle.previous.specs.Of.{Told, noPrevious, previousOf, reservedAfter, topLevelAfter, topOf, wordOf}
+use Rattle.indentation.specs.Unique.{false-true}
 
 tops-within : (ts : List IndentType) → tops ts ≤ length ts
 unfolding tops
@@ -41,9 +42,6 @@ spans-room i c h =
     let t = tops-within (typesOf i) in
     let l = types-length i in
     omega arith
-
-false-true : {A : Type 0} → false ≡ true → A
-false-true e = absurd (let z : _≡_ {A = ℕ} 0 1 = cc in omega arith)
 
 tail-map : {A B : Type 0} (f : A → B) (l : List A) → map f (tail l) ≡ tail (map f l)
 tail-map f [] = refl

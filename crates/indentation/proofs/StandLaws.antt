@@ -276,7 +276,7 @@ counts-on m n count w h e f = laws.counts-on n count w (kindsIn m) (e ∙ ap wei
 
 -- ---- nothing left
 
-module _ (m q : List ℕ) (s : Sound m) (l : length q ≡ length m) (z : (k : ℕ) → k < 1159 → getD q k 0 ≡ 0) where
+module _ (m q : List ℕ) (s : length m ≡ 1287) (l : length q ≡ length m) (z : (k : ℕ) → k < 1159 → getD q k 0 ≡ 0) where
   no-kinds : kindsIn q ≡ replicate 128 0
   unfolding kindsIn
   no-kinds = table-all 128 0 (λ k. getD q k 0) (λ k h. z k (omega arith))
@@ -301,7 +301,7 @@ module _ (m q : List ℕ) (s : Sound m) (l : length q ≡ length m) (z : (k : �
   pub by-zero : (r : Counts) → r ≡ noCounts → ((k : ℕ) → 1159 ≤ k → getD q k 0 ≡ getD m k 0) → Stands noIndentation m r q
   by-zero r e a =
       rw e
-      (lift m q noCounts _ refl refl refl (record { kinds = no-kinds; spans = no-spans; previous = no-words; sound = record { long = l ∙ s .long; flags = no-flags }; above = a }) noIndentation (laws.by-new noPrevious refl))
+      (lift m q noCounts _ refl refl refl (record { kinds = no-kinds; spans = no-spans; previous = no-words; sound = record { long = l ∙ s; flags = no-flags }; above = a }) noIndentation (laws.by-new noPrevious refl))
 
 -- the first n words are zero, and the others as they were
 pub record Zeroed (m : List ℕ) (n : ℕ) (q : List ℕ) : Type 0 where
@@ -326,7 +326,7 @@ zeroed-on m q n z h =
     }
 
 pub by-zeroed : (m q : List ℕ) (n : ℕ) (r : Counts) → Sound m → Zeroed m n q → n ≤ 1159 → 1159 ≤ n → r ≡ noCounts → Stands noIndentation m r q
-by-zeroed m q n r s z a b e = by-zero m q s (z .long) (λ k h. z .below k (omega arith)) r e (λ k h. z .above k (omega arith))
+by-zeroed m q n r s z a b e = by-zero m q (s .long) (z .long) (λ k h. z .below k (omega arith)) r e (λ k h. z .above k (omega arith))
 
 -- one operation after another
 pub onward : (w v : Indentation ℕ) (m q p : List ℕ) (r s : Counts) → Stands w m r q → Stands v q s p → Stands v m s p

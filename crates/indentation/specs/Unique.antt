@@ -98,13 +98,13 @@ stacks-one w r q s t =
 
 -- ---- the words of the memory
 
-not-told : {A : Type 0} → false ≡ true → A
-not-told e = no-way (cc)
+pub false-true : {A : Type 0} → false ≡ true → A
+false-true e = no-way (cc)
 
 one-flag : (x y : ℕ) → x ≤ 1 → y ≤ 1 → not (eqb x 0) ≡ not (eqb y 0) → x ≡ y
 one-flag zero zero p q e = refl
-one-flag zero (suc y) p q e = not-told (e ∙ rw (ne-eqb (suc y) 0 (λ h. omega arith)))
-one-flag (suc x) zero p q e = not-told (sym e ∙ rw (ne-eqb (suc x) 0 (λ h. omega arith)))
+one-flag zero (suc y) p q e = false-true (e ∙ rw (ne-eqb (suc y) 0 (λ h. omega arith)))
+one-flag (suc x) zero p q e = false-true (sym e ∙ rw (ne-eqb (suc x) 0 (λ h. omega arith)))
 one-flag (suc x) (suc y) p q e = omega arith
 
 module _ (q p : List ℕ) (a : ℕ) (f : previous.Flags q a) (g : previous.Flags p a) (e : previous.entryAt q a ≡ previous.entryAt p a) where
