@@ -1,7 +1,7 @@
 -- An opening bracket: its tests, and its rule from what its calls gave. Assumes nothing.
 use mathlib.Core.Path.{_≡_, refl, ap, _∙_}
 use mathlib.Core.Bool.{Bool, true, false, not, _&&_}
-use mathlib.Core.List.{List, _∷_}
+use mathlib.Core.List.{List}
 use Prim.Native.Nat.{ℕ, _+_, _≤_, _<_}
 use native.Mathlib.Numerals.{add-one}
 use native.Mathlib.Omega.{arith}
@@ -19,7 +19,7 @@ use Rattle.rules.specs.Sheet.{envOf}
 use Rattle.rules.specs.Text.{Text, inCase, isLower}
 use Rattle.rules.specs.State.{State}
 use Rattle.rules.specs.Indentation.{Indentation, indentLevel, increaseBlockLevel, previousTopLevelReserved}
-use Rattle.rules.specs.InlineBlock.{buildInfo, isActive, isInlineBlock, beginsInline, beginIfPossible, full}
+use Rattle.rules.specs.InlineBlock.{isActive, isInlineBlock, beginsInline, beginIfPossible, full}
 use Rattle.rules.specs.Formatter.{kindIs, previousNonWhitespaceToken, foldsIn, cutsBefore, blankBetween, formatOpeningParentheses}
 use Rattle.ascii.specs.Part.{part as bytes}
 use Rattle.text.specs.Held.{textOf, Laid}
@@ -38,9 +38,9 @@ use Rattle.state.specs.declared.State.{State as Code}
 use Rattle.state.specs.declared.Context.{Context}
 use Rattle.state.specs.Words.{onWords, block-words, last-top-level, level-words}
 use Rattle.state.specs.Below.{below-up, block-below}
-use Rattle.state.specs.Of.{valueIn, wordOf, stateOf, Ready, envIn, hereIn, Handled}
+use Rattle.state.specs.Of.{valueIn, wordOf, stateOf, Ready, envIn, hereIn, Handled, given}
 use Rattle.state.proofs.Laws.{value-is}
-use Rattle.brackets.specs.Brackets.{onBlock, caseIn, bracketIn, foldedIn, openingIn}
+use Rattle.brackets.specs.Brackets.{caseIn, bracketIn, foldedIn, openingIn}
 use Rattle.brackets.proofs.Laws.{said, bracket-is, by-whole}
 
 -- ---- whether the block is inline, and whether there is room
@@ -139,11 +139,10 @@ module _ (s : List ℕ) (x : Context) (i : ℕ) (st : Code) (d : List ℕ) (read
   level-is folded = rw (← block-words name folded stacks) (level-words name false (increaseBlockLevel folded stacks))
 
   opening-rule : (info : BlockInfo) (inlined folded : Bool) (level : ℕ)
-      → info ≡ buildInfo (hereIn s x i .token ∷ hereIn s x i .after)
       → inlined ≡ beginsInline (x .options) info blocks
       → folded ≡ foldedIn s x i inlined stacks
       → level ≡ indentLevel false (increaseBlockLevel folded stacks)
-      → onBlock formatOpeningParentheses (envIn s x (length d)) (hereIn s x i) now
+      → formatOpeningParentheses (envIn s x (length d)) (hereIn s x i) info now
       ≡ record {
         text = opening (length d) (x .options) (openingIn s x i stacks blocks inlined folded level) (bracketIn s x i) (textOf (st .text) d);
         indentation = onWords name (increaseBlockLevel folded stacks);
@@ -152,12 +151,11 @@ module _ (s : List ℕ) (x : Context) (i : ℕ) (st : Code) (d : List ℕ) (read
         index = st .index;
       }
   unfolding opening stateOf envOf
-  opening-rule info inlined folded level ei en ef el =
-      rw (el, ← level-is folded, block-words name folded stacks, bracket-is s x (length d) i (ready .known), ← full-is, add-one (st .«block_level»), ef, folded-is inlined, en, ready .known .options, ei)
-      (halves.opening (envIn s x (length d)) (hereIn s x i) now (buildInfo (hereIn s x i .token ∷ hereIn s x i .after)))
+  opening-rule info inlined folded level en ef el =
+      rw (el, ← level-is folded, block-words name folded stacks, bracket-is s x (length d) i (ready .known), ← full-is, add-one (st .«block_level»), ef, folded-is inlined, en, ready .known .options)
+      (halves.opening (envIn s x (length d)) (hereIn s x i) now info)
 
   pub by-opening : (info : BlockInfo) (inlined folded : Bool) (into : Stacks) (level : ℕ) (how : Opening) (t : CodeText) (l : InlineBlock) (q : List ℕ)
-      → info ≡ buildInfo (hereIn s x i .token ∷ hereIn s x i .after)
       → inlined ≡ beginsInline (x .options) info blocks
       → folded ≡ foldedIn s x i inlined stacks
       → Stands (increaseBlockLevel folded stacks) into
@@ -165,11 +163,11 @@ module _ (s : List ℕ) (x : Context) (i : ℕ) (st : Code) (d : List ℕ) (read
       → how ≡ openingIn s x i stacks blocks inlined folded level
       → Laid (length d) (opening (length d) (x .options) how (bracketIn s x i) (textOf (st .text) d)) t q
       → block.Stands (beginIfPossible inlined (info .length) blocks) l
-      → Handled s x i (onBlock formatOpeningParentheses) st d (record { text = t; indentation = into; «inline_block» = l; «block_level» = st .«block_level» + 1; index = st .index }) q
-  by-opening info inlined folded into level how t l q ei en ef stands el eh laid inline =
+      → Handled s x i (given formatOpeningParentheses info) st d (record { text = t; indentation = into; «inline_block» = l; «block_level» = st .«block_level» + 1; index = st .index }) q
+  by-opening info inlined folded into level how t l q en ef stands el eh laid inline =
       let k = ready .steady .level in
-      by-whole s x i (onBlock formatOpeningParentheses) st d ready
+      by-whole s x i (given formatOpeningParentheses info) st d ready
       (opening (length d) (x .options) how (bracketIn s x i) (textOf (st .text) d))
       (increaseBlockLevel folded stacks) (beginIfPossible inlined (info .length) blocks) (st .«block_level» + 1) t into l q
       laid stands (block-below (i + 1) stacks (below-up (omega arith) (ready .steady .words)) folded) inline (omega arith)
-      (rw eh (opening-rule info inlined folded level ei en ef (el ∙ ap (indentLevel false) (stands .is))))
+      (rw eh (opening-rule info inlined folded level en ef (el ∙ ap (indentLevel false) (stands .is))))

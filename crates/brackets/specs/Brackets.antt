@@ -1,30 +1,22 @@
 -- The tests of a bracket, read from the sheet and from the code's stacks.
 use mathlib.Core.Bool.{Bool, not, _&&_}
-use mathlib.Core.List.{List, _∷_}
+use mathlib.Core.List.{List}
 use Prim.Native.Nat.{ℕ}
 use lib.Dec.{eqb}
-use Rattle.rules.specs.declared.BlockInfo.{BlockInfo}
 use Rattle.rules.specs.declared.Case.{Case}
 use Rattle.rules.specs.declared.FormatOptions.{FormatOptions}
 use Rattle.rules.specs.declared.TokenKind.the-variants.{ReservedTopLevel}
 use Rattle.rules.specs.Base.{choose, holds, isSome}
 use Rattle.rules.specs.Bytes.{bytes}
-use Rattle.rules.specs.Tokens.{Here}
-use Rattle.rules.specs.Sheet.{Env}
 use Rattle.rules.specs.Text.{Text, inCase, isLower}
-use Rattle.rules.specs.State.{State}
 use Rattle.rules.specs.Indentation.{Indentation, unfolded, previousTopLevelReserved}
-use Rattle.rules.specs.InlineBlock.{buildInfo, full}
+use Rattle.rules.specs.InlineBlock.{full}
 use Rattle.rules.specs.Formatter.{kindIs, previousNonWhitespaceToken, foldsIn, cutsBefore, blankBetween}
 use Rattle.keeps.specs.CaseOf.{caseOf}
 use Rattle.query.specs.Query.{closingInline, closing}
 use Rattle.query_brackets.specs.declared.Opening.{Opening}
 use Rattle.state.specs.declared.Context.{Context}
 use Rattle.state.specs.Of.{wordOf, hereIn}
-
--- a handler that reads the block ahead
-abbrev pub onBlock : (Env → Here → BlockInfo → State → State) → Env → Here → State → State
-onBlock f e h s = f e h (buildInfo (h .token ∷ h .after)) s
 
 -- the case of token i, and its value in that case
 abbrev pub caseIn : List ℕ → Context → ℕ → Case

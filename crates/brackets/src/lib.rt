@@ -10,8 +10,8 @@ ghost use Rattle.indentation.specs.Of.{spanIn, indentationOf, Clean};
 ghost use Rattle.inline_block.specs.Of.{inlineBlockOf};
 ghost use Rattle.text.specs.Held.{textOf, Held, Laid};
 ghost use Rattle.query_brackets.specs.Opening.{opening};
-ghost use Rattle.state.specs.Of.{Known, Ready, Handled};
-ghost use Rattle.brackets.specs.Brackets.{onBlock, caseIn, bracketIn, foldedIn, openingIn, endsUnder, closingOf};
+ghost use Rattle.state.specs.Of.{Known, Ready, Handled, given};
+ghost use Rattle.brackets.specs.Brackets.{caseIn, bracketIn, foldedIn, openingIn, endsUnder, closingOf};
 use indentation::Indentation;
 use indentation::TopLevel;
 use inline_block::InlineBlock;
@@ -148,15 +148,14 @@ pub fn format_opening_parentheses(
     sheet: &[u8],
     x: Context,
     i: usize,
+    info: BlockInfo,
 ) -> State
     requires { ⌜ Ready (now sheet) x i s (now query) ⌝ }
-    ensures { λ r. ⌜ Handled (now (sheet .entry)) x i (onBlock formatOpeningParentheses) s (now (query .entry)) r (now (query .exit)) ⌝ }
+    ensures { λ r. ⌜ Handled (now (sheet .entry)) x i (given formatOpeningParentheses info) s (now (query .entry)) r (now (query .exit)) ⌝ }
 {
     let stacks = s.indentation;
     let inline = s.inline_block;
     let o = x.options;
-    let c = x.counts;
-    let info = blocks::build_info(sheet, x.base, c.tokens, i);
     let inlined = begins_inline(o, info, inline);
     let folded = is_folded(sheet, x, i, inlined, stacks);
     let into = stacks.increase_block_level(folded);

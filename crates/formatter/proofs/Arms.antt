@@ -14,20 +14,27 @@ use Rattle.rules.specs.declared.TokenKind.the-variants as kind
 use Rattle.rules.specs.declared.Turn.{Turn}
 use Rattle.rules.specs.declared.Turn.the-variants as turn
 use Rattle.rules.specs.Tokens.{Here}
-use Rattle.rules.specs.Sheet.{Env}
+use Rattle.rules.specs.Sheet.{Env, envOf}
 use Rattle.rules.specs.State.{State}
 use Rattle.rules.specs.Answer.{takenAs}
-use Rattle.rules.specs.Formatter.{formatToken, formatNoChange, formatLineComment, formatBlockComment, formatTopLevelReservedWord, formatTopLevelReservedWordNoIndent, formatNewlineAfterReservedWord, formatNewlineReservedWord, formatReserved, formatOpeningParentheses, formatClosingParentheses, formatPlaceholder, formatQuerySeparator, formatTypeSpecifier, formatByValue}
+use Rattle.rules.specs.Formatter.{spanInfo, formatToken, formatNoChange, formatLineComment, formatBlockComment, formatTopLevelReservedWord, formatTopLevelReservedWordNoIndent, formatNewlineAfterReservedWord, formatNewlineReservedWord, formatReserved, formatOpeningParentheses, formatClosingParentheses, formatPlaceholder, formatQuerySeparator, formatTypeSpecifier, formatByValue}
 use Rattle.values.specs.On.{onValue, onToken, separates}
 use Rattle.values.proofs.ByValue.{is-separator}
-use Rattle.top_level.specs.Levels.{onSpan}
-use Rattle.brackets.specs.Brackets.{onBlock}
+use Rattle.rules.specs.declared.SpanInfo.{SpanInfo}
+use Rattle.rules.specs.declared.BlockInfo.{BlockInfo}
+use Rattle.rules.specs.Span.{topLevelTokensInfo}
+use Rattle.rules.specs.InlineBlock.{buildInfo, curLen}
+use Rattle.inline_block.specs.Of.{inlineBlockOf}
 use Rattle.text.specs.declared.Text.{Text as CodeText}
 use Rattle.state.specs.declared.State.{State as Code}
 use Rattle.state.specs.declared.Context.{Context}
 use Rattle.state.specs.Below.{below-up}
-use Rattle.state.specs.Of.{stateOf, withText, Ready, envIn, hereIn, Handled}
+use Rattle.state.specs.Of.{stateOf, withText, Ready, envIn, hereIn, Handled, given}
 use Rattle.formatter.specs.Run.{tokenRule, changesKind, changesIn, kindIn}
+
+-- a bracket's block, from the bracket on
+abbrev blockInfo : Env → Here → State → BlockInfo
+blockInfo e h u = buildInfo (h .token ∷ h .after)
 
 false-true : {A : Type 0} → false ≡ true → A
 false-true e = absurd (let z : _≡_ {A = ℕ} 0 1 = cc in omega arith)
@@ -152,6 +159,13 @@ module _ (s : List ℕ) (x : Context) (i : ℕ) (st : Code) (d : List ℕ) (read
           state = h .state ∙ sym (ap (λ (y : TokenKind). formatToken env here y now) (sym told ∙ e) ∙ rule env here now);
         }
 
+    -- the same for a rule that is given what was read ahead
+    by-given : {A : Type 0} (j : TokenKind) (f : Env → Here → A → State → State) (read : Env → Here → State → A) (a : A) (r : Code) (q : List ℕ) → k ≡ j → ((e : Env) (h : Here) (u : State) → formatToken e h j u ≡ f e h (read e h u) u)
+        → a ≡ read (envIn s x (length d)) (hereIn s x i) (stateOf s (x .base) st d) → Handled s x i (given f a) st d r q → Handled s x i tokenRule st d r q
+    by-given {A} j f read a r q e rule ea h =
+        by-kind j (λ v w u. f v w (read v w u) u) r q e rule
+        (record { room = h .room; steady = h .steady; state = h .state ∙ ap (λ (y : A). f (envIn s x (length d)) (hereIn s x i) y (stateOf s (x .base) st d)) ea })
+
     -- ---- a token that changes the text alone
 
     pub by-white : (u : CodeText) → u ≡ st .text → k ≡ kind.Whitespace → Handled s x i tokenRule st d (withText st u) d
@@ -204,17 +218,22 @@ module _ (s : List ℕ) (x : Context) (i : ℕ) (st : Code) (d : List ℕ) (read
       laid : Handled s x i tokenRule st d r q → Handled s x i (takenAs t) st d r q
       laid = by-laid-out t r q (laid-out t k (separates s x i) (sym eb ∙ more))
 
-      pub by-top-level : k ≡ kind.ReservedTopLevel → Handled s x i (onSpan formatTopLevelReservedWord) st d r q → Handled s x i (takenAs t) st d r q
-      unfolding formatToken
-      by-top-level e h = laid (by-kind kind.ReservedTopLevel (onSpan formatTopLevelReservedWord) r q e (λ v h u. refl) h)
+      module _ (len : ℕ) (sp : SpanInfo) (el : len ≡ curLen (inlineBlockOf (st .«inline_block»))) (es : sp ≡ topLevelTokensInfo (x .options) (st .«block_level») len (hereIn s x i .after)) where
+        span-is : sp ≡ spanInfo (envIn s x (length d)) (hereIn s x i) (stateOf s (x .base) st d)
+        unfolding spanInfo envOf stateOf
+        span-is = es ∙ rw (el, ready .known .options)
 
-      pub by-no-indent : k ≡ kind.ReservedTopLevelNoIndent → Handled s x i (onSpan formatTopLevelReservedWordNoIndent) st d r q → Handled s x i (takenAs t) st d r q
-      unfolding formatToken
-      by-no-indent e h = laid (by-kind kind.ReservedTopLevelNoIndent (onSpan formatTopLevelReservedWordNoIndent) r q e (λ v h u. refl) h)
+        pub by-top-level : k ≡ kind.ReservedTopLevel → Handled s x i (given formatTopLevelReservedWord sp) st d r q → Handled s x i (takenAs t) st d r q
+        unfolding formatToken
+        by-top-level e h = laid (by-given kind.ReservedTopLevel formatTopLevelReservedWord spanInfo sp r q e (λ v w u. refl) span-is h)
 
-      pub by-newline-after : k ≡ kind.ReservedNewlineAfter → Handled s x i (onSpan formatNewlineAfterReservedWord) st d r q → Handled s x i (takenAs t) st d r q
-      unfolding formatToken
-      by-newline-after e h = laid (by-kind kind.ReservedNewlineAfter (onSpan formatNewlineAfterReservedWord) r q e (λ v h u. refl) h)
+        pub by-no-indent : k ≡ kind.ReservedTopLevelNoIndent → Handled s x i (given formatTopLevelReservedWordNoIndent sp) st d r q → Handled s x i (takenAs t) st d r q
+        unfolding formatToken
+        by-no-indent e h = laid (by-given kind.ReservedTopLevelNoIndent formatTopLevelReservedWordNoIndent spanInfo sp r q e (λ v w u. refl) span-is h)
+
+        pub by-newline-after : k ≡ kind.ReservedNewlineAfter → Handled s x i (given formatNewlineAfterReservedWord sp) st d r q → Handled s x i (takenAs t) st d r q
+        unfolding formatToken
+        by-newline-after e h = laid (by-given kind.ReservedNewlineAfter formatNewlineAfterReservedWord spanInfo sp r q e (λ v w u. refl) span-is h)
 
       pub by-newline : k ≡ kind.ReservedNewline → Handled s x i formatNewlineReservedWord st d r q → Handled s x i (takenAs t) st d r q
       unfolding formatToken
@@ -224,9 +243,9 @@ module _ (s : List ℕ) (x : Context) (i : ℕ) (st : Code) (d : List ℕ) (read
       unfolding formatToken
       by-reserved e h = laid (by-kind kind.Reserved formatReserved r q e (λ v h u. refl) h)
 
-      pub by-opening : k ≡ kind.OpenParen → Handled s x i (onBlock formatOpeningParentheses) st d r q → Handled s x i (takenAs t) st d r q
+      pub by-opening : (info : BlockInfo) → info ≡ blockInfo (envIn s x (length d)) (hereIn s x i) (stateOf s (x .base) st d) → k ≡ kind.OpenParen → Handled s x i (given formatOpeningParentheses info) st d r q → Handled s x i (takenAs t) st d r q
       unfolding formatToken
-      by-opening e h = laid (by-kind kind.OpenParen (onBlock formatOpeningParentheses) r q e (λ v h u. refl) h)
+      by-opening info ei e h = laid (by-given kind.OpenParen formatOpeningParentheses blockInfo info r q e (λ v w u. refl) ei h)
 
       pub by-closing : k ≡ kind.CloseParen → Handled s x i formatClosingParentheses st d r q → Handled s x i (takenAs t) st d r q
       unfolding formatToken

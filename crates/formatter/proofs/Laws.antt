@@ -57,6 +57,9 @@ by-begun cap q t i b p si sb =
 
 -- ---- one token
 
+pub level-few : (s : List ℕ) (x : Context) (i level : ℕ) → Known s x → i < x .counts .tokens → level ≤ i → level ≤ 1024
+level-few s x i level known here h = let f = known .sheeted .few .tokens in omega arith
+
 pub by-step : (s : List ℕ) (x : Context) (i : ℕ) (st : Code) (w : CodeSwitch) (d : List ℕ) (v : Value) (k : TokenKind) (t : Turn) (r : Code) (u : CodeSwitch) (q : List ℕ)
     → v ≡ valueIn s x i → k ≡ kindIn s x i → t ≡ turnOf (switchOf w) k (take (v .len) (drop (v .start) s)) → switchOf u ≡ switchAfter t (switchOf w) → Handled s x i (takenAs t) st d r q
     → Stepped s x i st w d r u q

@@ -1,19 +1,22 @@
 // formatter.rs, `format`: every token in turn, by the fmt switch and its kind.
 ghost use mathlib.Core.Path.{_≡_};
 ghost use mathlib.Core.Bool.{false};
-ghost use Prim.Native.Nat.{_<_};
+ghost use Prim.Native.Nat.{_≤_, _<_};
 ghost use lib.ListN.{length};
+ghost use Rattle.rules.specs.Span.{topLevelTokensInfo};
 ghost use Rattle.rules.specs.Answer.{takenAs};
-ghost use Rattle.state.specs.Of.{Known, Ready, Handled, withText};
+ghost use Rattle.state.specs.Of.{Known, Ready, Handled, withText, hereIn};
 ghost use Rattle.formatter.specs.Run.{tokenRule, changesKind, changesIn, Begun, answerIn, kindIn};
 ghost use Rattle.values.specs.On.{separates};
 ghost use Rattle.rules.specs.Answer.{reportOf, bufferOf, finish as finishOf};
 ghost use Rattle.text.specs.Held.{textOf, Held};
+use ahead::top_level_tokens_info;
 use around::is_byte;
 use fmt_switch::Switch;
 use indentation::Indentation;
 use inline_block::InlineBlock;
 use rules::Report;
+use rules::SpanInfo;
 use rules::TokenKind;
 use rules::Turn;
 use state::Context;
@@ -128,6 +131,16 @@ fn finish(query: &mut [u8], t: Text) -> Report
     }
 }
 
+// The span of a top-level word, block_len being the length of the inline block around it.
+fn span_info(sheet: &[u8], x: Context, i: usize, level: u32, block_len: u32) -> SpanInfo
+    requires { ⌜ (Known (now sheet) x) × (i < x .counts .tokens) × (level ≤ i) ⌝ }
+    ensures { λ r. ⌜ r ≡ topLevelTokensInfo (x .options) level «block_len» (hereIn (now (sheet .entry)) x i .after) ⌝ }
+{
+    let c = x.counts;
+    let o = x.options;
+    top_level_tokens_info(sheet, x.base, c.tokens, i, level, o, block_len)
+}
+
 pub fn format(query: &mut [u8], sheet: &[u8], x: Context) -> Report
     requires { ⌜ Known (now sheet) x ⌝ }
     ensures { λ r. ⌜ r ≡ reportOf (answerIn (now (sheet .entry)) x (length (now (query .entry)))) ⌝ }
@@ -146,13 +159,26 @@ pub fn format(query: &mut [u8], sheet: &[u8], x: Context) -> Report
         if changes(sheet, x, i, kind, turn) {
             match kind {
                 TokenKind::ReservedTopLevel => {
-                    s = top_level::format_top_level_reserved_word(query, s, sheet, x, i);
+                    let inline = s.inline_block;
+                    let span = span_info(sheet, x, i, s.block_level, inline.cur_len());
+                    s = top_level::format_top_level_reserved_word(query, s, sheet, x, i, span);
                 }
                 TokenKind::ReservedTopLevelNoIndent => {
-                    s = top_level::format_top_level_reserved_word_no_indent(query, s, sheet, x, i);
+                    let inline = s.inline_block;
+                    let span = span_info(sheet, x, i, s.block_level, inline.cur_len());
+                    s = top_level::format_top_level_reserved_word_no_indent(
+                        query,
+                        s,
+                        sheet,
+                        x,
+                        i,
+                        span,
+                    );
                 }
                 TokenKind::ReservedNewlineAfter => {
-                    s = top_level::format_newline_after_reserved_word(query, s, sheet, x, i);
+                    let inline = s.inline_block;
+                    let span = span_info(sheet, x, i, s.block_level, inline.cur_len());
+                    s = top_level::format_newline_after_reserved_word(query, s, sheet, x, i, span);
                 }
                 TokenKind::ReservedNewline => {
                     s = reserved::format_newline_reserved_word(query, s, sheet, x, i);
@@ -161,7 +187,8 @@ pub fn format(query: &mut [u8], sheet: &[u8], x: Context) -> Report
                     s = reserved::format_reserved(query, s, sheet, x, i);
                 }
                 TokenKind::OpenParen => {
-                    s = brackets::format_opening_parentheses(query, s, sheet, x, i);
+                    let info = blocks::build_info(sheet, x.base, n, i);
+                    s = brackets::format_opening_parentheses(query, s, sheet, x, i, info);
                 }
                 TokenKind::CloseParen => {
                     s = brackets::format_closing_parentheses(query, s, sheet, x, i);

@@ -67,6 +67,10 @@ envIn s x room = envOf s (x .counts) room
 abbrev pub hereIn : List ℕ → Context → ℕ → Here
 hereIn s x i = hereAt s (x .base) (x .counts .tokens) i
 
+-- a rule that is given what was read ahead
+abbrev pub given : {A : Type 0} → (Env → Here → A → State → State) → A → Env → Here → State → State
+given f a e h s = f e h a s
+
 -- token i was taken by the rule f: from the state st and the buffer d to r and q
 pub record Handled (s : List ℕ) (x : Context) (i : ℕ) (f : Env → Here → State → State) (st : Code) (d : List ℕ) (r : Code) (q : List ℕ) : Type 0 where
   pub room : length q ≡ length d

@@ -18,10 +18,9 @@ use Rattle.rules.specs.Tokens.{Here}
 use Rattle.rules.specs.Words.{tokenAt}
 use Rattle.rules.specs.Sheet.{Env, envOf}
 use Rattle.rules.specs.State.{State}
-use Rattle.rules.specs.Span.{topLevelTokensInfo}
 use Rattle.rules.specs.Indentation.{Indentation, unfolded, indentLevel, increaseTopLevel, popTop, decreaseTopLevel, setPreviousTopLevel, previousTopLevelReserved}
-use Rattle.rules.specs.InlineBlock.{curLen, full}
-use Rattle.rules.specs.Formatter.{spanInfo, newlineBefore, formatTopLevelReservedWord, formatTopLevelReservedWordNoIndent, formatNewlineAfterReservedWord}
+use Rattle.rules.specs.InlineBlock.{full}
+use Rattle.rules.specs.Formatter.{newlineBefore, formatTopLevelReservedWord, formatTopLevelReservedWordNoIndent, formatNewlineAfterReservedWord}
 use Rattle.text.specs.Held.{textOf, Laid}
 use Rattle.text.specs.declared.Text.{Text as CodeText}
 use Rattle.indentation.specs.Of.{spanIn, typesOf, indentationOf, Clean, Stands}
@@ -29,7 +28,6 @@ use Rattle.indentation.proofs.Laws.{types-length}
 use Rattle.indentation.specs.declared.Indentation.{Indentation as Stacks}
 use Rattle.indentation.specs.declared.TopLevel.{TopLevel}
 use Rattle.indentation.specs.declared.TopLevel.the-variants as top
-use Rattle.inline_block.specs.Of.{inlineBlockOf}
 use Rattle.query.specs.Query
 use Rattle.query.specs.declared.Value.{Value}
 use Rattle.query.proofs.Halves as halves
@@ -38,12 +36,12 @@ use Rattle.state.specs.declared.State.{State as Code}
 use Rattle.state.specs.declared.Context.{Context}
 use Rattle.state.specs.Words.{onWords, top-words, untop-words, top-level-words, last-top-level}
 use Rattle.state.specs.Below.{Below, below-up, top-below, untop-below, top-level-below}
-use Rattle.state.specs.Of.{valueIn, wordOf, stateOf, withIndentation, Known, Ready, envIn, hereIn, Handled}
+use Rattle.state.specs.Of.{valueIn, wordOf, stateOf, withIndentation, Known, Ready, envIn, hereIn, Handled, given}
 use Rattle.state.proofs.Laws.{by-halves}
 use Rattle.rules.specs.Base.{if_then_else_, when}
 use Rattle.reserved.proofs.Laws.{when-below, when-words, level-words, full-words, written, word-is}
 use Rattle.top_level.specs.declared.Levels.{Levels}
-use Rattle.top_level.specs.Levels.{onSpan, outOf, intoOf, Turned}
+use Rattle.top_level.specs.Levels.{outOf, intoOf, Turned}
 
 -- ---- the stacks around the word
 
@@ -146,9 +144,6 @@ module _ (i : Indentation ℕ) (before after : Bool) (sp : SpanInfo) where
 pub by-create : (b create after : Bool) → create ≡ b → after ≡ true → not create ≡ (after && not b)
 by-create b create after e h = rw (h, e)
 
-pub level-few : (s : List ℕ) (x : Context) (i level : ℕ) → Known s x → i < x .counts .tokens → level ≤ i → level ≤ 1024
-level-few s x i level known here h = let f = known .sheeted .few .tokens in omega arith
-
 pub number-few : (s : List ℕ) (x : Context) (i : ℕ) → Known s x → i < x .counts .tokens → i < 65535
 number-few s x i known here = let f = known .sheeted .few .tokens in omega arith
 
@@ -170,7 +165,7 @@ by-limit limit o most len b e h = rw e h
 
 -- ---- the handlers
 
-module _ (s : List ℕ) (x : Context) (i : ℕ) (st : Code) (d : List ℕ) (ready : Ready s x i st d) (v : Value) (ev : v ≡ valueIn s x i) (k : Case) (ek : k ≡ caseOf s (x .counts) (x .options .casing) (wordOf s (x .base) i)) (len : ℕ) (hlen : len ≡ curLen (inlineBlockOf (st .«inline_block»))) (sp : SpanInfo) (hsp : sp ≡ topLevelTokensInfo (x .options) (st .«block_level») len (hereIn s x i .after)) (t : CodeText) (r : Code) (q : List ℕ) where
+module _ (s : List ℕ) (x : Context) (i : ℕ) (st : Code) (d : List ℕ) (ready : Ready s x i st d) (v : Value) (ev : v ≡ valueIn s x i) (k : Case) (ek : k ≡ caseOf s (x .counts) (x .options .casing) (wordOf s (x .base) i)) (sp : SpanInfo) (t : CodeText) (r : Code) (q : List ℕ) where
   abbrev now : State
   now = stateOf s (x .base) st d
 
@@ -180,17 +175,13 @@ module _ (s : List ℕ) (x : Context) (i : ℕ) (st : Code) (d : List ℕ) (read
   abbrev word : List ℕ
   word = written s x i (ready .known) v ev k ek
 
-  span-is : sp ≡ spanInfo (envIn s x (length d)) (hereIn s x i) now
-  unfolding spanInfo envOf stateOf
-  span-is = hsp ∙ rw (hlen, ready .known .options)
-
   -- from what the handler does with this span
   by-span : (f : Env → Here → SpanInfo → State → State) (before after : Bool) (l : Levels) (w : Text) → Turned stacks before after sp i l → Laid (length d) w t q → r ≡ withIndentation st t (l .stacks)
-      → f (envIn s x (length d)) (hereIn s x i) sp now ≡ halves.halves w (onWords (wordOf s (x .base)) (setPreviousTopLevel i sp (intoOf before after sp stacks))) now → Handled s x i (onSpan f) st d r q
+      → f (envIn s x (length d)) (hereIn s x i) sp now ≡ halves.halves w (onWords (wordOf s (x .base)) (setPreviousTopLevel i sp (intoOf before after sp stacks))) now → Handled s x i (given f sp) st d r q
   by-span f before after l w told laid m e =
       rw m
-      (by-halves s x i (onSpan f) st d ready w (setPreviousTopLevel i sp (intoOf before after sp stacks)) t (l .stacks) q laid (told .stands)
-      (top-level-below (i + 1) (intoOf before after sp stacks) (into-below stacks before after sp (i + 1) (below-up (omega arith) (ready .steady .words))) i sp (omega arith)) (rw (← span-is) e))
+      (by-halves s x i (given f sp) st d ready w (setPreviousTopLevel i sp (intoOf before after sp stacks)) t (l .stacks) q laid (told .stands)
+      (top-level-below (i + 1) (intoOf before after sp stacks) (into-below stacks before after sp (i + 1) (below-up (omega arith) (ready .steady .words))) i sp (omega arith)) e)
 
   -- what the handler reads of its levels, in the rules' words
   module _ (before after : Bool) (l : Levels) (told : Turned stacks before after sp i l) where
@@ -214,7 +205,7 @@ module _ (s : List ℕ) (x : Context) (i : ℕ) (st : Code) (d : List ℕ) (read
 
   pub by-top-level : (after : Bool) (l : Levels) → after ≡ (sp .«newline_after» && not (tokenAt s i .create)) → Turned stacks (sp .«newline_before») after sp i l
       → Laid (length d) (Query.topLevel (length d) (x .options) (sp .«newline_before») (l .out) word after (l .six) (l .into) (textOf (st .text) d)) t q → r ≡ withIndentation st t (l .stacks)
-      → Handled s x i (onSpan formatTopLevelReservedWord) st d r q
+      → Handled s x i (given formatTopLevelReservedWord sp) st d r q
   unfolding envOf stateOf
   by-top-level after l ha told laid m =
       let b = sp .«newline_before» in
@@ -224,7 +215,7 @@ module _ (s : List ℕ) (x : Context) (i : ℕ) (st : Code) (d : List ℕ) (read
 
   pub by-no-indent : (l : Levels) → Turned stacks (sp .«newline_before») false sp i l
       → Laid (length d) (Query.topLevel (length d) (x .options) (sp .«newline_before») (l .out) word (sp .«newline_after») false (l .into) (textOf (st .text) d)) t q → r ≡ withIndentation st t (l .stacks)
-      → Handled s x i (onSpan formatTopLevelReservedWordNoIndent) st d r q
+      → Handled s x i (given formatTopLevelReservedWordNoIndent sp) st d r q
   unfolding envOf stateOf when
   by-no-indent l told laid m =
       let b = sp .«newline_before» in
@@ -235,7 +226,7 @@ module _ (s : List ℕ) (x : Context) (i : ℕ) (st : Code) (d : List ℕ) (read
   pub by-newline-after : (last : TopLevel) (n : ℕ) (before : Bool) (l : Levels) → n ≡ length (wordOf s (x .base) i) → spanIn last ≡ previousTopLevelReserved stacks
       → before ≡ newlineBefore (x .options .«max_inline_top_level») (spanIn last) n → Turned stacks before true sp i l
       → Laid (length d) (Query.newlineAfter (length d) (x .options) before (l .out) word (l .six) (l .into) (textOf (st .text) d)) t q → r ≡ withIndentation st t (l .stacks)
-      → Handled s x i (onSpan formatNewlineAfterReservedWord) st d r q
+      → Handled s x i (given formatNewlineAfterReservedWord sp) st d r q
   unfolding envOf stateOf when
   by-newline-after last n before l hn hl hb told laid m =
       by-span formatNewlineAfterReservedWord before true l (Query.newlineAfter (length d) (x .options) before (l .out) word (l .six) (l .into) (textOf (st .text) d)) told laid m

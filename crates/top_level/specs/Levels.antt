@@ -5,17 +5,9 @@ use Prim.Native.Nat.{ℕ, _≤_}
 use Rattle.rules.specs.declared.SpanInfo.{SpanInfo}
 use Rattle.rules.specs.InlineBlock.{full}
 use Rattle.rules.specs.Indentation.{Indentation, indentLevel, increaseTopLevel, decreaseTopLevel, setPreviousTopLevel}
-use Rattle.rules.specs.Tokens.{Here}
-use Rattle.rules.specs.Sheet.{Env}
-use Rattle.rules.specs.State.{State}
-use Rattle.rules.specs.Formatter.{spanInfo}
 use Rattle.indentation.specs.Of.{Stands}
 use Rattle.rules.specs.Base.{when}
 use Rattle.top_level.specs.declared.Levels.{Levels}
-
--- a handler that reads the word's span ahead
-abbrev pub onSpan : (Env → Here → SpanInfo → State → State) → Env → Here → State → State
-onSpan f e h s = f e h (spanInfo e h s) s
 
 -- the stacks before the word, and after it
 abbrev pub outOf : {W : Type 0} → Bool → Indentation W → Indentation W

@@ -2,16 +2,14 @@
 // They differ in when the stacks shrink and grow: `levels_around` says it once for all three.
 ghost use mathlib.Core.Path.{_≡_};
 ghost use mathlib.Core.Bool.{false, not, _&&_};
-ghost use Prim.Native.Nat.{_≤_, _<_};
+ghost use Prim.Native.Nat.{_<_};
 ghost use Rattle.rules.specs.declared.Limit.the-variants as limits;
 ghost use Rattle.rules.specs.Words.{tokenAt};
-ghost use Rattle.rules.specs.Span.{topLevelTokensInfo};
 ghost use Rattle.rules.specs.Indentation.{indentLevel};
 ghost use Rattle.rules.specs.Formatter.{newlineBefore, formatTopLevelReservedWord, formatTopLevelReservedWordNoIndent, formatNewlineAfterReservedWord};
 ghost use Rattle.indentation.specs.Of.{spanIn, indentationOf, Clean};
-ghost use Rattle.state.specs.Of.{Known, Ready, Handled, hereIn};
-ghost use Rattle.top_level.specs.Levels.{onSpan, Turned};
-use ahead::top_level_tokens_info;
+ghost use Rattle.state.specs.Of.{Known, Ready, Handled, given};
+ghost use Rattle.top_level.specs.Levels.{Turned};
 use around::value_len;
 use indentation::Indentation;
 use indentation::TopLevel;
@@ -33,16 +31,7 @@ pub struct Levels {
     pub stacks: Indentation,
 }
 
-// ---- the span, and the stacks around the word
-
-fn span_info(sheet: &[u8], x: Context, i: usize, level: u32, block_len: u32) -> SpanInfo
-    requires { ⌜ (Known (now sheet) x) × (i < x .counts .tokens) × (level ≤ i) ⌝ }
-    ensures { λ r. ⌜ r ≡ topLevelTokensInfo (x .options) level «block_len» (hereIn (now (sheet .entry)) x i .after) ⌝ }
-{
-    let c = x.counts;
-    let o = x.options;
-    top_level_tokens_info(sheet, x.base, c.tokens, i, level, o, block_len)
-}
+// ---- the stacks around the word
 
 // The word is token n.
 // A top-level entry counts for one level: so each level follows from the one before by the number of entries.
@@ -90,14 +79,13 @@ pub fn format_top_level_reserved_word(
     sheet: &[u8],
     x: Context,
     i: usize,
+    span: SpanInfo,
 ) -> State
     requires { ⌜ Ready (now sheet) x i s (now query) ⌝ }
-    ensures { λ r. ⌜ Handled (now (sheet .entry)) x i (onSpan formatTopLevelReservedWord) s (now (query .entry)) r (now (query .exit)) ⌝ }
+    ensures { λ r. ⌜ Handled (now (sheet .entry)) x i (given formatTopLevelReservedWord span) s (now (query .entry)) r (now (query .exit)) ⌝ }
 {
     let v = value_of(sheet, x, i);
     let k = case_of(sheet, x, i);
-    let inline = s.inline_block;
-    let span = span_info(sheet, x, i, s.block_level, inline.cur_len());
     let before = span.newline_before;
     let after = starts_level(sheet, x, i, span.newline_after);
     let stacks = s.indentation;
@@ -129,14 +117,13 @@ pub fn format_top_level_reserved_word_no_indent(
     sheet: &[u8],
     x: Context,
     i: usize,
+    span: SpanInfo,
 ) -> State
     requires { ⌜ Ready (now sheet) x i s (now query) ⌝ }
-    ensures { λ r. ⌜ Handled (now (sheet .entry)) x i (onSpan formatTopLevelReservedWordNoIndent) s (now (query .entry)) r (now (query .exit)) ⌝ }
+    ensures { λ r. ⌜ Handled (now (sheet .entry)) x i (given formatTopLevelReservedWordNoIndent span) s (now (query .entry)) r (now (query .exit)) ⌝ }
 {
     let v = value_of(sheet, x, i);
     let k = case_of(sheet, x, i);
-    let inline = s.inline_block;
-    let span = span_info(sheet, x, i, s.block_level, inline.cur_len());
     let before = span.newline_before;
     let stacks = s.indentation;
     let l = levels_around(
@@ -188,14 +175,13 @@ pub fn format_newline_after_reserved_word(
     sheet: &[u8],
     x: Context,
     i: usize,
+    span: SpanInfo,
 ) -> State
     requires { ⌜ Ready (now sheet) x i s (now query) ⌝ }
-    ensures { λ r. ⌜ Handled (now (sheet .entry)) x i (onSpan formatNewlineAfterReservedWord) s (now (query .entry)) r (now (query .exit)) ⌝ }
+    ensures { λ r. ⌜ Handled (now (sheet .entry)) x i (given formatNewlineAfterReservedWord span) s (now (query .entry)) r (now (query .exit)) ⌝ }
 {
     let v = value_of(sheet, x, i);
     let k = case_of(sheet, x, i);
-    let inline = s.inline_block;
-    let span = span_info(sheet, x, i, s.block_level, inline.cur_len());
     let stacks = s.indentation;
     let o = x.options;
     let limit = o.max_inline_top_level;

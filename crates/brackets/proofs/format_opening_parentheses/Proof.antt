@@ -1,13 +1,18 @@
-use denote.Ref.{now}
-use native.Mathlib.Omega.{arith}
-use Rattle.state.proofs.Laws.{known-readable}
-use Rattle.brackets.proofs.OpeningLaws.{by-opening}
 use borrow.Author.Needs.{needs}
 use Rattle.brackets.proofs.format_opening_parentheses.Statement.{statement}
 use Rattle.brackets.proofs.format_opening_parentheses.Tie as tie
-
-build-info-requires : tie.Need-build-info-requires
-build-info-requires c κs = search (needs, known-readable)
+use Rattle.brackets.proofs.format_opening_parentheses.Reads as reads
+use Rattle.brackets.proofs.format_opening_parentheses.Lts as lts
+use Rattle.brackets.proofs.begins_inline.Reads as begins-inline-reads
+use Rattle.brackets.proofs.is_folded.Reads as is-folded-reads
+use Rattle.brackets.proofs.opening_at.Reads as opening-at-reads
+use Rattle.brackets.proofs.push_opening.Reads as push-opening-reads
+use Rattle.indentation.proofs.Indentation.increase_block_level.Reads as increase-block-level-reads
+use Rattle.indentation.proofs.Indentation.indent_level.Reads as indent-level-reads
+use Rattle.inline_block.proofs.InlineBlock.begin_if_possible.Reads as begin-if-possible-reads
+use denote.Ref.{now}
+use native.Mathlib.Omega.{arith}
+use Rattle.brackets.proofs.OpeningLaws.{by-opening}
 
 begins-inline-requires : tie.Need-begins-inline-requires
 begins-inline-requires c κs = search needs
@@ -26,15 +31,15 @@ opening-at-requires c κs = search needs
 
 push-opening-requires : tie.Need-push-opening-requires
 push-opening-requires c κs =
-    let ready = c .before .before .before .before .before .before .before .before .before .before .before .before .before .before .pre in
+    let ready = c .before .before .before .before .before .before .before .before .before .before .before .before .pre in
     (ready .steady .held, (ready .known, ready .here, rw (c .before .before .opening-at .ensures) (c .before .before .before .indent-level .ensures .1)))
 
 begin-if-possible-requires : tie.Need-begin-if-possible-requires
-begin-if-possible-requires c κs = c .before .before .before .before .before .before .before .before .before .before .before .before .before .before .before .before .before .pre .steady .inlined
+begin-if-possible-requires c κs = c .before .before .before .before .before .before .before .before .before .before .before .before .before .before .before .pre .steady .inlined
 
-add-t21 : tie.Need-add-t21
-add-t21 c =
-    let ready = c .before .before .before .before .before .before .before .before .before .before .before .before .before .before .before .before .before .before .before .pre in
+add-t20 : tie.Need-add-t20
+add-t20 c =
+    let ready = c .before .before .before .before .before .before .before .before .before .before .before .before .before .before .before .before .before .pre in
     omega (arith, ready .steady .level, ready .here, ready .known .sheeted .few .tokens)
 
 same-length : tie.Need-same-length
@@ -42,17 +47,16 @@ same-length c = search needs
 
 returns : tie.Need-returns
 returns c =
-    let start = c .before .before .before .before .before .before .before .before .before .before .before .before .before .before .before .before .before .before .before in
+    let start = c .before .before .before .before .before .before .before .before .before .before .before .before .before .before .before .before .before in
     let at-level = c .before .before .before .before .before .before .before .before in
     by-opening (now (start .args .sheet)) (start .args .x) (start .args .i) (start .args .s) _ (start .pre) _ _ _ _ _ _ _ _ _
-    (at-level .before .before .before .before .build-info .ensures) (at-level .before .before .before .begins-inline .ensures) (at-level .before .before .is-folded .ensures) (at-level .before .increase-block-level .ensures) (at-level .indent-level .ensures .0)
+    (at-level .before .before .before .begins-inline .ensures) (at-level .before .before .is-folded .ensures) (at-level .before .increase-block-level .ensures) (at-level .indent-level .ensures .0)
     (c .before .before .before .before .before .before .before .opening-at .ensures) (c .before .before .before .before .push-opening .ensures) (c .before .begin-if-possible .ensures)
 
 pub format-opening-parentheses-spec : {M : Type 1} → statement M
 format-opening-parentheses-spec =
     tie.close
     (tie.spec
-    build-info-requires
     begins-inline-requires
     is-folded-requires
     increase-block-level-requires
@@ -60,6 +64,6 @@ format-opening-parentheses-spec =
     opening-at-requires
     push-opening-requires
     begin-if-possible-requires
-    add-t21
+    add-t20
     same-length
     returns)

@@ -1,3 +1,28 @@
+use Rattle.formatter.proofs.format.Statement.{statement}
+use Rattle.formatter.proofs.format.Tie as tie
+use Rattle.formatter.proofs.format.Reads as reads
+use Rattle.formatter.proofs.format.Lts as lts
+use Rattle.blocks.proofs.build_info.Reads as build-info-reads
+use Rattle.brackets.proofs.format_closing_parentheses.Reads as format-closing-parentheses-reads
+use Rattle.brackets.proofs.format_opening_parentheses.Reads as format-opening-parentheses-reads
+use Rattle.fmt_switch.proofs.Switch.after.Reads as after-reads
+use Rattle.fmt_switch.proofs.Switch.new.Reads as new-reads
+use Rattle.fmt_switch.proofs.Switch.turn_of.Reads as turn-of-reads
+use Rattle.formatter.proofs.begin.Reads as begin-reads
+use Rattle.formatter.proofs.changes.Reads as changes-reads
+use Rattle.formatter.proofs.finish.Reads as finish-reads
+use Rattle.formatter.proofs.span_info.Reads as span-info-reads
+use Rattle.formatter.proofs.text_taken_as.Reads as text-taken-as-reads
+use Rattle.inline_block.proofs.InlineBlock.cur_len.Reads as cur-len-reads
+use Rattle.reserved.proofs.format_newline_reserved_word.Reads as format-newline-reserved-word-reads
+use Rattle.reserved.proofs.format_reserved.Reads as format-reserved-reads
+use Rattle.state.proofs.value_of.Reads as value-of-reads
+use Rattle.tokens.proofs.kind_at.Reads as kind-at-reads
+use Rattle.top_level.proofs.format_newline_after_reserved_word.Reads as format-newline-after-reserved-word-reads
+use Rattle.top_level.proofs.format_top_level_reserved_word.Reads as format-top-level-reserved-word-reads
+use Rattle.top_level.proofs.format_top_level_reserved_word_no_indent.Reads as format-top-level-reserved-word-no-indent-reads
+use Rattle.values.proofs.format_placeholder.Reads as format-placeholder-reads
+use Rattle.values.proofs.format_query_separator.Reads as format-query-separator-reads
 use mathlib.Core.List.{[]}
 use mathlib.Core.Logic.{⊎-elim}
 use mathlib.Core.Path.{_≡_, sym, _∙_}
@@ -6,12 +31,10 @@ use borrow.Author.Needs.{needs}
 use Prim.Native.Nat.{_-_}
 use native.Mathlib.Omega.{arith}
 use lib.ListN.{length}
-use Rattle.state.proofs.Laws.{value-inside}
+use Rattle.state.proofs.Laws.{value-inside, known-readable}
 use Rattle.formatter.specs.Run.{Stepped}
 use Rattle.formatter.proofs.Laws.{by-step, Running, run-starts, run-ready, run-goes, run-refused, run-zeros, run-reports, run-fills}
 use Rattle.formatter.proofs.Arms.{by-top-level, by-no-indent, by-newline-after, by-newline, by-reserved, by-opening, by-closing, by-placeholder, by-separator}
-use Rattle.formatter.proofs.format.Statement.{statement}
-use Rattle.formatter.proofs.format.Tie as tie
 
 abbrev Inv-loop : tie.InvT-loop
 Inv-loop query₀ sheet x n s₀ switch₀ i₀ query s switch i = (length query ≡ length query₀) × Running sheet x (length query₀) i s switch query
@@ -46,23 +69,47 @@ changes-requires c κs = search needs
 enum-told : tie.Need-enum-told Inv-loop μ-loop
 enum-told c = search needs
 
+-- src/lib.rt:163:70
+cur-len-requires : tie.Need-cur-len-requires Inv-loop μ-loop
+cur-len-requires c κs = search needs
+
+-- src/lib.rt:163:25
+span-info-requires : tie.Need-span-info-requires Inv-loop μ-loop
+span-info-requires c κs = (c .before .before .before .before .before .before .before .before .before .before .before .before .before .before .before .before .before .before .before .before .pre, c .before .before .before .before .before .before .before .before .before .before .loop-test .taken, c .before .before .before .before .before .before .before .before .before .before .before .loop .inv .1 .steady .level)
+
 format-top-level-reserved-word-requires :
     tie.Need-format-top-level-reserved-word-requires Inv-loop μ-loop
-format-top-level-reserved-word-requires c κs = run-ready _ _ _ _ _ _ _ (c .before .before .before .before .before .before .before .before .before .before .before .before .before .before .before .before .before .before .before .pre) (c .before .before .before .before .before .before .before .before .before .loop-test .taken) (c .before .before .before .before .before .before .before .before .before .before .loop .inv .1)
+format-top-level-reserved-word-requires c κs = run-ready _ _ _ _ _ _ _ (c .before .before .before .before .before .before .before .before .before .before .before .before .before .before .before .before .before .before .before .before .before .before .pre) (c .before .before .before .before .before .before .before .before .before .before .before .before .loop-test .taken) (c .before .before .before .before .before .before .before .before .before .before .before .before .before .loop .inv .1)
 
 enum-told-2 : tie.Need-enum-told-2 Inv-loop μ-loop
 enum-told-2 c = search needs
 
+-- src/lib.rt:168:70
+cur-len-requires-2 : tie.Need-cur-len-requires-2 Inv-loop μ-loop
+cur-len-requires-2 c κs = search needs
+
+-- src/lib.rt:168:25
+span-info-requires-2 : tie.Need-span-info-requires-2 Inv-loop μ-loop
+span-info-requires-2 c κs = (c .before .before .before .before .before .before .before .before .before .before .before .before .before .before .before .before .before .before .before .before .pre, c .before .before .before .before .before .before .before .before .before .before .loop-test .taken, c .before .before .before .before .before .before .before .before .before .before .before .loop .inv .1 .steady .level)
+
 format-top-level-reserved-word-no-indent-requires :
     tie.Need-format-top-level-reserved-word-no-indent-requires Inv-loop μ-loop
-format-top-level-reserved-word-no-indent-requires c κs = run-ready _ _ _ _ _ _ _ (c .before .before .before .before .before .before .before .before .before .before .before .before .before .before .before .before .before .before .before .pre) (c .before .before .before .before .before .before .before .before .before .loop-test .taken) (c .before .before .before .before .before .before .before .before .before .before .loop .inv .1)
+format-top-level-reserved-word-no-indent-requires c κs = run-ready _ _ _ _ _ _ _ (c .before .before .before .before .before .before .before .before .before .before .before .before .before .before .before .before .before .before .before .before .before .before .pre) (c .before .before .before .before .before .before .before .before .before .before .before .before .loop-test .taken) (c .before .before .before .before .before .before .before .before .before .before .before .before .before .loop .inv .1)
 
 enum-told-3 : tie.Need-enum-told-3 Inv-loop μ-loop
 enum-told-3 c = search needs
 
+-- src/lib.rt:173:70
+cur-len-requires-3 : tie.Need-cur-len-requires-3 Inv-loop μ-loop
+cur-len-requires-3 c κs = search needs
+
+-- src/lib.rt:173:25
+span-info-requires-3 : tie.Need-span-info-requires-3 Inv-loop μ-loop
+span-info-requires-3 c κs = (c .before .before .before .before .before .before .before .before .before .before .before .before .before .before .before .before .before .before .before .before .pre, c .before .before .before .before .before .before .before .before .before .before .loop-test .taken, c .before .before .before .before .before .before .before .before .before .before .before .loop .inv .1 .steady .level)
+
 format-newline-after-reserved-word-requires :
     tie.Need-format-newline-after-reserved-word-requires Inv-loop μ-loop
-format-newline-after-reserved-word-requires c κs = run-ready _ _ _ _ _ _ _ (c .before .before .before .before .before .before .before .before .before .before .before .before .before .before .before .before .before .before .before .pre) (c .before .before .before .before .before .before .before .before .before .loop-test .taken) (c .before .before .before .before .before .before .before .before .before .before .loop .inv .1)
+format-newline-after-reserved-word-requires c κs = run-ready _ _ _ _ _ _ _ (c .before .before .before .before .before .before .before .before .before .before .before .before .before .before .before .before .before .before .before .before .before .before .pre) (c .before .before .before .before .before .before .before .before .before .before .before .before .loop-test .taken) (c .before .before .before .before .before .before .before .before .before .before .before .before .before .loop .inv .1)
 
 enum-told-4 : tie.Need-enum-told-4 Inv-loop μ-loop
 enum-told-4 c = search needs
@@ -80,8 +127,12 @@ format-reserved-requires c κs = run-ready _ _ _ _ _ _ _ (c .before .before .bef
 enum-told-6 : tie.Need-enum-told-6 Inv-loop μ-loop
 enum-told-6 c = search needs
 
+-- src/lib.rt:183:25
+build-info-requires : tie.Need-build-info-requires Inv-loop μ-loop
+build-info-requires c κs = (known-readable _ _ (c .before .before .before .before .before .before .before .before .before .before .before .before .before .before .before .before .before .before .pre), c .before .before .before .before .before .before .before .before .loop-test .taken)
+
 format-opening-parentheses-requires : tie.Need-format-opening-parentheses-requires Inv-loop μ-loop
-format-opening-parentheses-requires c κs = run-ready _ _ _ _ _ _ _ (c .before .before .before .before .before .before .before .before .before .before .before .before .before .before .before .before .before .before .before .pre) (c .before .before .before .before .before .before .before .before .before .loop-test .taken) (c .before .before .before .before .before .before .before .before .before .before .loop .inv .1)
+format-opening-parentheses-requires c κs = run-ready _ _ _ _ _ _ _ (c .before .before .before .before .before .before .before .before .before .before .before .before .before .before .before .before .before .before .before .before .pre) (c .before .before .before .before .before .before .before .before .before .before .loop-test .taken) (c .before .before .before .before .before .before .before .before .before .before .before .loop .inv .1)
 
 enum-told-7 : tie.Need-enum-told-7 Inv-loop μ-loop
 enum-told-7 c = search needs
@@ -111,17 +162,17 @@ stepped j =
     let eb = j .before .changes .ensures in
     by-step _ _ _ _ _ _ _ _ _ _ _ _ (j .before .before .before .before .value-of .ensures) told (j .before .before .before .turn-of .ensures) (j .before .before .after .ensures)
     (⊎-elim
-    (λ w. rw (w .7, w .8) (by-top-level _ _ _ _ _ ready _ told _ _ eb (w .0 .taken) _ _ (w .2 .given .1) (w .4 .ensures)))
+    (λ w. rw (w .10, w .11) (by-top-level _ _ _ _ _ ready _ told _ _ eb (w .0 .taken) _ _ _ _ (w .4 .ensures) (w .5 .ensures) (w .2 .given .1) (w .7 .ensures)))
     (⊎-elim
-    (λ w. rw (w .7, w .8) (by-no-indent _ _ _ _ _ ready _ told _ _ eb (w .0 .taken) _ _ (w .2 .given .1) (w .4 .ensures)))
+    (λ w. rw (w .10, w .11) (by-no-indent _ _ _ _ _ ready _ told _ _ eb (w .0 .taken) _ _ _ _ (w .4 .ensures) (w .5 .ensures) (w .2 .given .1) (w .7 .ensures)))
     (⊎-elim
-    (λ w. rw (w .7, w .8) (by-newline-after _ _ _ _ _ ready _ told _ _ eb (w .0 .taken) _ _ (w .2 .given .1) (w .4 .ensures)))
+    (λ w. rw (w .10, w .11) (by-newline-after _ _ _ _ _ ready _ told _ _ eb (w .0 .taken) _ _ _ _ (w .4 .ensures) (w .5 .ensures) (w .2 .given .1) (w .7 .ensures)))
     (⊎-elim
     (λ w. rw (w .7, w .8) (by-newline _ _ _ _ _ ready _ told _ _ eb (w .0 .taken) _ _ (w .2 .given .1) (w .4 .ensures)))
     (⊎-elim
     (λ w. rw (w .7, w .8) (by-reserved _ _ _ _ _ ready _ told _ _ eb (w .0 .taken) _ _ (w .2 .given .1) (w .4 .ensures)))
     (⊎-elim
-    (λ w. rw (w .7, w .8) (by-opening _ _ _ _ _ ready _ told _ _ eb (w .0 .taken) _ _ (w .2 .given .1) (w .4 .ensures)))
+    (λ w. rw (w .8, w .9) (by-opening _ _ _ _ _ ready _ told _ _ eb (w .0 .taken) _ _ _ (w .3 .ensures) (w .2 .given .1) (w .5 .ensures)))
     (⊎-elim
     (λ w. rw (w .7, w .8) (by-closing _ _ _ _ _ ready _ told _ _ eb (w .0 .taken) _ _ (w .2 .given .1) (w .4 .ensures)))
     (⊎-elim
@@ -201,16 +252,23 @@ format-spec =
     after-requires
     changes-requires
     enum-told
+    cur-len-requires
+    span-info-requires
     format-top-level-reserved-word-requires
     enum-told-2
+    cur-len-requires-2
+    span-info-requires-2
     format-top-level-reserved-word-no-indent-requires
     enum-told-3
+    cur-len-requires-3
+    span-info-requires-3
     format-newline-after-reserved-word-requires
     enum-told-4
     format-newline-reserved-word-requires
     enum-told-5
     format-reserved-requires
     enum-told-6
+    build-info-requires
     format-opening-parentheses-requires
     enum-told-7
     format-closing-parentheses-requires

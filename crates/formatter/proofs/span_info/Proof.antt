@@ -1,8 +1,8 @@
-use Rattle.top_level.proofs.Laws.{level-few}
+use Rattle.formatter.proofs.Laws.{level-few}
 use Rattle.state.proofs.Laws.{known-readable}
 use borrow.Author.Needs.{needs}
-use Rattle.top_level.proofs.span_info.Statement.{statement}
-use Rattle.top_level.proofs.span_info.Tie as tie
+use Rattle.formatter.proofs.span_info.Statement.{statement}
+use Rattle.formatter.proofs.span_info.Tie as tie
 
 top-level-tokens-info-requires : tie.Need-top-level-tokens-info-requires
 top-level-tokens-info-requires c κs = search (needs, known-readable, level-few)
