@@ -35,14 +35,14 @@ pub fn or_zero(limit: Limit) -> u32
     }
 }
 
-fn at_least_one(n: u32) -> u32
+fn at_least_one(n: u16) -> u16
     ensures { λ r. ⌜ r ≡ max 1 n ⌝ }
 {
     if n == 0 { 1 } else { n }
 }
 
 // One more at the open level o.
-fn one_more(level: u32, o: u32, n: u32) -> u32
+fn one_more(level: u32, o: u32, n: u16) -> u16
     requires { ⌜ n < 65535 ⌝ }
     ensures { λ r. ⌜ r ≡ oneMore level o n ⌝ }
 {
@@ -165,7 +165,7 @@ fn read_on(sheet: &[u8], base: usize, n: usize, i: usize, o: u32) -> Scan
     a
 }
 
-fn span_limit(limit: u32, arguments_limit: u32, arguments: u32) -> u32
+fn span_limit(limit: u32, arguments_limit: u32, arguments: u16) -> u32
     ensures { λ r. ⌜ r ≡ spanLimit limit «arguments_limit» arguments ⌝ }
 {
     if arguments <= 1 {

@@ -6,9 +6,9 @@ use Prim.Native.Nat.{ℕ, _+_, _-_}
 use native.Mathlib.Nat.{sub-zero}
 use native.Mathlib.Omega.{arith}
 use borrow.Author.Tests.{not-true, not-false, lt-ltb}
-use lib.Dec.{eqb, ltb}
+use lib.Dec.{eqb}
 use lib.ListN.{length}
-use Rattle.rules.specs.Base.{if_then_else_, choose}
+use Rattle.rules.specs.Base.{choose, if_then_else_}
 use Rattle.rules.specs.declared.Case.{Case}
 use Rattle.rules.specs.declared.FormatOptions.{FormatOptions}
 use Rattle.rules.specs.Bytes.{bytes as text}
@@ -25,7 +25,6 @@ use Rattle.indentation.specs.Of.{indentationOf, StandsClosed}
 use Rattle.indentation.specs.declared.Closed.{Closed as CodeClosed}
 use Rattle.inline_block.specs.Of as block
 use Rattle.inline_block.specs.declared.InlineBlock.{InlineBlock}
-use Rattle.inline_block.proofs.Laws.{blocks-same, active-is}
 use Rattle.query.specs.Query.{closingInline, closing}
 use Rattle.query.specs.declared.Value.{Value}
 use Rattle.query.proofs.Halves as halves
@@ -36,7 +35,7 @@ use Rattle.state.specs.Below.{below-up, closed-below}
 use Rattle.state.specs.Of.{valueIn, wordOf, stateOf, Ready, envIn, hereIn, Handled}
 use Rattle.state.proofs.Laws.{value-is}
 use Rattle.brackets.specs.Brackets.{caseIn, bracketIn, endsUnder, closingOf}
-use Rattle.brackets.proofs.Laws.{said, lowered, bracket-is, blocks-clean, by-whole}
+use Rattle.brackets.proofs.Laws.{said, lowered, bracket-is, by-whole}
 
 -- ---- refusal 8
 
@@ -82,15 +81,15 @@ ended (n ∷ l) = rw (lt-ltb 0 (length (n ∷ l)) (omega arith))
 
 -- ---- the whole
 
-module _ (s : List ℕ) (x : Context) (i : ℕ) (st : Code) (m d : List ℕ) (ready : Ready s x i st m d) where
+module _ (s : List ℕ) (x : Context) (i : ℕ) (st : Code) (d : List ℕ) (ready : Ready s x i st d) where
   abbrev now : State
-  now = stateOf s (x .base) st m d
+  now = stateOf s (x .base) st d
 
   abbrev stacks : Indentation ℕ
-  stacks = indentationOf (st .indentation) m
+  stacks = indentationOf (st .indentation)
 
   abbrev blocks : List ℕ
-  blocks = block.inlineBlockOf (st .«inline_block») m
+  blocks = block.inlineBlockOf (st .«inline_block»)
 
   abbrev shut : Closed ℕ
   shut = decreaseBlockLevel stacks
@@ -98,42 +97,38 @@ module _ (s : List ℕ) (x : Context) (i : ℕ) (st : Code) (m d : List ℕ) (re
   abbrev name : ℕ → List ℕ
   name = wordOf s (x .base)
 
-  closing-rule : (eight active : Bool) (level y : ℕ)
+  closing-rule : (eight active : Bool) (level n : ℕ)
       → eight ≡ endsUnder (x .options) (shut .folded) (shut .left)
       → level ≡ indentLevel (shut .folded) (shut .left)
       → active ≡ isActive blocks
-      → y ≡ st .«block_level» - 1
+      → n ≡ st .«block_level» - 1
       → formatClosingParentheses (envIn s x (length d)) (hereIn s x i) now
       ≡ record {
         text = closingOf (length d) (x .options) active eight level (bracketIn s x i) (textOf (st .text) d);
         indentation = onWords name (shut .left);
         inlineBlock = tail blocks;
-        blockLevel = y;
+        blockLevel = n;
         index = st .index;
       }
   unfolding closingOf endsUnder stateOf envOf
-  closing-rule eight active level y ee el ea ey =
+  closing-rule eight active level n ee el ea en =
       let rule = halves.closing (envIn s x (length d)) (hereIn s x i) now in
-      rw (ee, ← under-words name (x .options) (shut .folded) (shut .left), el, ← level-words name (shut .folded) (shut .left), ea, ey, bracket-is s x (length d) i (ready .known), ready .known .options, ← ended blocks)
+      rw (ee, ← under-words name (x .options) (shut .folded) (shut .left), el, ← level-words name (shut .folded) (shut .left), ea, en, bracket-is s x (length d) i (ready .known), ready .known .options, ← ended blocks)
       (rw (← closed-words name stacks) at rule)
 
-  module _ (closed : CodeClosed) (n : List ℕ) (stands : StandsClosed shut m closed n) where
-    pub end-clean : block.Clean (st .«inline_block») n
-    end-clean = blocks-clean s x i st m d ready (shut .left) (closed .left) n (stands .left)
-
-    pub by-closing : (eight active : Bool) (level y : ℕ) (t : CodeText) (l : InlineBlock) (p q : List ℕ)
-        → eight ≡ endsUnder (x .options) (closed .folded) (indentationOf (closed .left) n)
-        → level ≡ indentLevel (closed .folded) (indentationOf (closed .left) n)
-        → active ≡ ltb 0 (st .«inline_block» .level)
-        → Laid (length d) (closingOf (length d) (x .options) active eight level (bracketIn s x i) (textOf (st .text) d)) t q
-        → block.Stands (tail (block.inlineBlockOf (st .«inline_block») n)) n l p
-        → y ≡ st .«block_level» - 1
-        → Handled s x i formatClosingParentheses st m d (record { text = t; indentation = closed .left; «inline_block» = l; «block_level» = y; index = st .index }) p q
-    by-closing eight active level y t l p q ee el ea laid inline ey =
-        let k = ready .steady .level in
-        by-whole s x i st m d ready (shut .left) (closed .left) n (stands .left) formatClosingParentheses
-        (closingOf (length d) (x .options) active eight level (bracketIn s x i) (textOf (st .text) d))
-        (tail blocks) y t l p q
-        laid (closed-below (i + 1) stacks (below-up (omega arith) (ready .steady .words)))
-        (rw (blocks-same (st .«inline_block») m n (stands .left .above)) at inline) (omega arith)
-        (closing-rule eight active level y (ee ∙ rw (stands .folded, stands .left .is)) (el ∙ rw (stands .folded, stands .left .is)) (ea ∙ active-is (st .«inline_block») m) ey)
+  pub by-closing : (closed : CodeClosed) (eight active : Bool) (level n : ℕ) (t : CodeText) (l : InlineBlock) (q : List ℕ)
+      → StandsClosed shut closed
+      → eight ≡ endsUnder (x .options) (closed .folded) (indentationOf (closed .left))
+      → level ≡ indentLevel (closed .folded) (indentationOf (closed .left))
+      → active ≡ isActive blocks
+      → Laid (length d) (closingOf (length d) (x .options) active eight level (bracketIn s x i) (textOf (st .text) d)) t q
+      → block.Stands (tail blocks) l
+      → n ≡ st .«block_level» - 1
+      → Handled s x i formatClosingParentheses st d (record { text = t; indentation = closed .left; «inline_block» = l; «block_level» = n; index = st .index }) q
+  by-closing closed eight active level n t l q stands ee el ea laid inline en =
+      let k = ready .steady .level in
+      by-whole s x i formatClosingParentheses st d ready
+      (closingOf (length d) (x .options) active eight level (bracketIn s x i) (textOf (st .text) d))
+      (shut .left) (tail blocks) n t (closed .left) l q
+      laid (stands .left) (closed-below (i + 1) stacks (below-up (omega arith) (ready .steady .words))) inline (omega arith)
+      (closing-rule eight active level n (ee ∙ rw (stands .folded, stands .left .is)) (el ∙ rw (stands .folded, stands .left .is)) ea en)

@@ -24,11 +24,9 @@ use Rattle.keeps.specs.CaseOf.{caseOf, rules-case}
 use Rattle.text.specs.Held.{Laid}
 use Rattle.text.specs.declared.Text.{Text as CodeText}
 use Rattle.indentation.specs.Of.{Stands}
-use Rattle.indentation.specs.declared.Indentation.{Indentation as Counts}
-use Rattle.indentation.proofs.FrameLaws as frame
+use Rattle.indentation.specs.declared.Indentation.{Indentation as Stacks}
 use Rattle.inline_block.specs.Of as block
 use Rattle.inline_block.specs.declared.InlineBlock.{InlineBlock}
-use Rattle.inline_block.proofs.Laws.{clean-same}
 use Rattle.query.specs.declared.Value.{Value}
 use Rattle.state.specs.declared.State.{State as Code}
 use Rattle.state.specs.declared.Context.{Context}
@@ -89,25 +87,21 @@ pub lowered : (k : Case) (v : List ℕ) → inCase case.Lower (inCase k v) ≡ i
 lowered k [] = refl
 lowered k (c ∷ v) = rw (byte-lowered k c, lowered k v)
 
--- ---- a state that is made anew: the stacks first, m to n, and then the inline blocks, n to p
+-- ---- the stacks under another name for each word
 
-module _ (s : List ℕ) (x : Context) (i : ℕ) (st : Code) (m d : List ℕ) (ready : Ready s x i st m d) (j : Indentation ℕ) (c : Counts) (n : List ℕ) (stands : Stands j m c n) where
-  pub blocks-clean : block.Clean (st .«inline_block») n
-  blocks-clean =
-      clean-same (st .«inline_block») m n (stands .above) (stands .clean .sound .long ∙ sym (ready .steady .stacks .sound .long)) (ready .steady .inlined)
+-- ---- a state that is made anew
 
-  pub by-whole : (f : Env → Here → State → State) (w : Text) (b : List ℕ) (y : ℕ) (t : CodeText) (l : InlineBlock) (p q : List ℕ)
-      → Laid (length d) w t q → Below (i + 1) j → block.Stands b n l p → y ≤ i + 1
-      → f (envIn s x (length d)) (hereIn s x i) (stateOf s (x .base) st m d)
-      ≡ record { text = w; indentation = onWords (wordOf s (x .base)) j; inlineBlock = b; blockLevel = y; index = st .index }
-      → Handled s x i f st m d (record { text = t; indentation = c; «inline_block» = l; «block_level» = y; index = st .index }) p q
+module _ (s : List ℕ) (x : Context) (i : ℕ) (f : Env → Here → State → State) (st : Code) (d : List ℕ) (ready : Ready s x i st d) where
+  pub by-whole : (w : Text) (j : Indentation ℕ) (b : List ℕ) (n : ℕ) (t : CodeText) (m : Stacks) (l : InlineBlock) (q : List ℕ)
+      → Laid (length d) w t q → Stands j m → Below (i + 1) j → block.Stands b l → n ≤ i + 1
+      → f (envIn s x (length d)) (hereIn s x i) (stateOf s (x .base) st d)
+      ≡ record { text = w; indentation = onWords (wordOf s (x .base)) j; inlineBlock = b; blockLevel = n; index = st .index }
+      → Handled s x i f st d (record { text = t; indentation = m; «inline_block» = l; «block_level» = n; index = st .index }) q
   unfolding stateOf
-  by-whole f w b y t l p q laid below inlined level e =
+  by-whole w j b n t m l q laid stands below inlined level e =
       let k = ready .steady .index in
-      let is = frame.indentation-same c n p (inlined .below) ∙ stands .is in
-      let clean = frame.clean-same c n p (inlined .below) (inlined .clean .long ∙ sym (stands .clean .sound .long)) (stands .clean) in
       record {
         room = laid .room;
-        steady = record { held = laid .held; stacks = clean; words = rw is below; inlined = inlined .clean; level = level; index = omega arith };
-        state = rw (laid .text, is, inlined .is) (sym e);
+        steady = record { held = laid .held; stacks = stands .clean; words = rw (stands .is) below; inlined = inlined .clean; level = level; index = omega arith };
+        state = rw (laid .text, stands .is, inlined .is) (sym e);
       }

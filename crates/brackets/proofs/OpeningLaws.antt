@@ -1,12 +1,12 @@
 -- An opening bracket: its tests, and its rule from what its calls gave. Assumes nothing.
-use mathlib.Core.Path.{_≡_, ap, _∙_}
-use mathlib.Core.Bool.{Bool, true, false, not, _&&_, _||_}
-use mathlib.Core.List.{List, _∷_}
+use mathlib.Core.Path.{_≡_, refl, ap, _∙_}
+use mathlib.Core.Bool.{Bool, true, false, not, _&&_}
+use mathlib.Core.List.{List}
 use Prim.Native.Nat.{ℕ, _+_, _≤_, _<_}
 use native.Mathlib.Numerals.{add-one}
 use native.Mathlib.Omega.{arith}
 use borrow.Author.Tests.{not-true, not-false, le-leb, lt-leb}
-use lib.Dec.{eqb, leb, ltb}
+use lib.Dec.{eqb}
 use lib.ListN.{length}
 use Rattle.rules.specs.declared.BlockInfo.{BlockInfo}
 use Rattle.rules.specs.declared.Case.{Case}
@@ -19,19 +19,17 @@ use Rattle.rules.specs.Sheet.{envOf}
 use Rattle.rules.specs.Text.{Text, inCase, isLower}
 use Rattle.rules.specs.State.{State}
 use Rattle.rules.specs.Indentation.{Indentation, indentLevel, increaseBlockLevel, previousTopLevelReserved}
-use Rattle.rules.specs.InlineBlock.{buildInfo, isInlineBlock, beginsInline, beginIfPossible, full}
+use Rattle.rules.specs.InlineBlock.{isActive, isInlineBlock, beginsInline, beginIfPossible, full}
 use Rattle.rules.specs.Formatter.{kindIs, previousNonWhitespaceToken, foldsIn, cutsBefore, blankBetween, formatOpeningParentheses}
 use Rattle.ascii.specs.Part.{part as bytes}
 use Rattle.text.specs.Held.{textOf, Laid}
 use Rattle.text.specs.declared.Text.{Text as CodeText}
 use Rattle.indentation.specs.Of.{indentationOf, spanIn, Stands}
-use Rattle.indentation.specs.declared.Indentation.{Indentation as Counts}
+use Rattle.indentation.specs.declared.Indentation.{Indentation as Stacks}
 use Rattle.indentation.specs.declared.TopLevel.{TopLevel}
 use Rattle.indentation.specs.declared.TopLevel.the-variants as top
-use Rattle.indentation.proofs.StandLaws.{full-is as stack-full-is}
 use Rattle.inline_block.specs.Of as block
 use Rattle.inline_block.specs.declared.InlineBlock.{InlineBlock}
-use Rattle.inline_block.proofs.Laws.{blocks-same, active-is, full-is as blocks-full-is}
 use Rattle.query.specs.declared.Value.{Value}
 use Rattle.query.proofs.Halves as halves
 use Rattle.query_brackets.specs.Opening.{opening}
@@ -40,25 +38,27 @@ use Rattle.state.specs.declared.State.{State as Code}
 use Rattle.state.specs.declared.Context.{Context}
 use Rattle.state.specs.Words.{onWords, block-words, last-top-level, level-words}
 use Rattle.state.specs.Below.{below-up, block-below}
-use Rattle.state.specs.Of.{valueIn, wordOf, stateOf, Ready, envIn, hereIn, Handled}
+use Rattle.state.specs.Of.{valueIn, wordOf, stateOf, Ready, envIn, hereIn, Handled, given}
 use Rattle.state.proofs.Laws.{value-is}
-use Rattle.brackets.specs.Brackets.{onBlock, caseIn, bracketIn, foldedIn, openingIn}
-use Rattle.brackets.proofs.Laws.{said, bracket-is, blocks-clean, by-whole}
+use Rattle.brackets.specs.Brackets.{caseIn, bracketIn, foldedIn, openingIn}
+use Rattle.brackets.proofs.Laws.{said, bracket-is, by-whole}
 
 -- ---- whether the block is inline, and whether there is room
 
-module _ (o : FormatOptions) (info : BlockInfo) (level : ℕ) (a : Bool) (e : a ≡ ltb 0 level) where
-  pub by-active : a ≡ true → true ≡ (ltb 0 level || isInlineBlock o info)
+module _ (o : FormatOptions) (info : BlockInfo) (l : List ℕ) (a : Bool) (e : a ≡ isActive l) where
+  pub by-active : a ≡ true → true ≡ beginsInline o info l
+  unfolding beginsInline
   by-active h = rw (← e, h)
 
-  pub by-fitting : (b : Bool) → a ≡ false → b ≡ isInlineBlock o info → b ≡ (ltb 0 level || isInlineBlock o info)
+  pub by-fitting : (b : Bool) → a ≡ false → b ≡ isInlineBlock o info → b ≡ beginsInline o info l
+  unfolding beginsInline
   by-fitting b h g = rw (← e, h) g
 
-module _ (inlined : Bool) (level : ℕ) where
-  pub by-not-inlined : not inlined ≡ true → false ≡ (inlined && leb 128 level)
+module _ (inlined : Bool) (l : List ℕ) where
+  pub by-not-inlined : not inlined ≡ true → false ≡ (inlined && full l)
   by-not-inlined h = rw (not-true inlined h)
 
-  pub by-room : (b : Bool) → not inlined ≡ false → b ≡ leb 128 level → b ≡ (inlined && leb 128 level)
+  pub by-room : (b : Bool) → not inlined ≡ false → b ≡ full l → b ≡ (inlined && full l)
   by-room b h e = rw (not-false inlined h) e
 
 -- ---- whether the block is folded
@@ -81,31 +81,31 @@ module _ (last : TopLevel) where
     unfolding spanIn foldsIn
     by-arguments h n = rw (e, le-leb _ _ h, not-false (sp .«newline_after») n)
 
-module _ (s : List ℕ) (x : Context) (i : ℕ) (inlined : Bool) (last : TopLevel) where
-  pub by-inlined : inlined ≡ true → false ≡ foldedIn s x i inlined (spanIn last)
+module _ (s : List ℕ) (x : Context) (i : ℕ) (inlined : Bool) (n : Indentation ℕ) where
+  pub by-inlined : inlined ≡ true → false ≡ foldedIn s x i inlined n
   unfolding foldedIn
   by-inlined h = rw h
 
   module _ (limited : Bool) (h : inlined ≡ false) (e : limited ≡ isSome (x .options .«max_inline_top_level»)) where
-    pub by-no-limit : not limited ≡ true → false ≡ foldedIn s x i inlined (spanIn last)
+    pub by-no-limit : not limited ≡ true → false ≡ foldedIn s x i inlined n
     unfolding foldedIn
     by-no-limit l = rw (h, ← e, not-true limited l)
 
     module _ (after : Bool) (l : not limited ≡ false) (f : after ≡ holds (kindIs ReservedTopLevel) (previousNonWhitespaceToken (hereIn s x i))) where
-      pub by-no-top : not after ≡ true → false ≡ foldedIn s x i inlined (spanIn last)
+      pub by-no-top : not after ≡ true → false ≡ foldedIn s x i inlined n
       unfolding foldedIn
       by-no-top t = rw (h, ← e, not-false limited l, ← f, not-true after t)
 
-      pub by-last : (b : Bool) → not after ≡ false → b ≡ holds foldsIn (spanIn last) → b ≡ foldedIn s x i inlined (spanIn last)
+      pub by-last : (last : TopLevel) (b : Bool) → not after ≡ false → spanIn last ≡ previousTopLevelReserved n → b ≡ holds foldsIn (spanIn last) → b ≡ foldedIn s x i inlined n
       unfolding foldedIn
-      by-last b t k = rw (h, ← e, not-false limited l, ← f, not-false after t) k
+      by-last last b t g k = rw (h, ← e, not-false limited l, ← f, not-false after t, ← g) k
 
 -- ---- the text
 
-pub by-opening-at : (s : List ℕ) (x : Context) (i : ℕ) (fullStack fullBlocks inlined folded : Bool) (level : ℕ) (v : Value) (six seven cuts between isCase : Bool)
-    → v ≡ valueIn s x i → six ≡ fullStack → seven ≡ (inlined && fullBlocks) → cuts ≡ cutsBefore (hereIn s x i) → between ≡ blankBetween (hereIn s x i) → isCase ≡ isLower (bytes s (v .start) (v .len)) (text "case")
-    → record { six = six; seven = seven; cuts = cuts; between = between; folded = folded; inlined = inlined; «is_case» = isCase; level = level } ≡ openingIn s x i fullStack fullBlocks inlined folded level
-by-opening-at s x i fullStack fullBlocks inlined folded level v six seven cuts between isCase e a b c d k = rw (a, b, c, d, k, value-is s x i v e)
+pub by-opening-at : (s : List ℕ) (x : Context) (i : ℕ) (n : Indentation ℕ) (l : List ℕ) (inlined folded : Bool) (level : ℕ) (v : Value) (six seven cuts between isCase : Bool)
+    → v ≡ valueIn s x i → six ≡ full (n .indentTypes) → seven ≡ (inlined && full l) → cuts ≡ cutsBefore (hereIn s x i) → between ≡ blankBetween (hereIn s x i) → isCase ≡ isLower (bytes s (v .start) (v .len)) (text "case")
+    → record { six = six; seven = seven; cuts = cuts; between = between; folded = folded; inlined = inlined; «is_case» = isCase; level = level } ≡ openingIn s x i n l inlined folded level
+by-opening-at s x i n l inlined folded level v six seven cuts between isCase e a b c d k = rw (a, b, c, d, k, value-is s x i v e)
 
 pub by-push-opening : (s : List ℕ) (x : Context) (i : ℕ) (o : FormatOptions) (how : Opening) (v : Value) (k : Case) (w : Text) (cap : ℕ) (t : CodeText) (q : List ℕ)
     → v ≡ valueIn s x i → k ≡ caseIn s x i → Laid cap (opening cap o how (inCase k (bytes s (v .start) (v .len))) w) t q → Laid cap (opening cap o how (bracketIn s x i) w) t q
@@ -113,75 +113,61 @@ by-push-opening s x i o how v k w cap t q e h laid = rw (said s x i v k e h) at 
 
 -- ---- the whole
 
-module _ (s : List ℕ) (x : Context) (i : ℕ) (st : Code) (m d : List ℕ) (ready : Ready s x i st m d) where
+module _ (s : List ℕ) (x : Context) (i : ℕ) (st : Code) (d : List ℕ) (ready : Ready s x i st d) where
   abbrev now : State
-  now = stateOf s (x .base) st m d
+  now = stateOf s (x .base) st d
 
   abbrev stacks : Indentation ℕ
-  stacks = indentationOf (st .indentation) m
+  stacks = indentationOf (st .indentation)
 
   abbrev blocks : List ℕ
-  blocks = block.inlineBlockOf (st .«inline_block») m
+  blocks = block.inlineBlockOf (st .«inline_block»)
 
   abbrev name : ℕ → List ℕ
   name = wordOf s (x .base)
 
-  begins-is : (info : BlockInfo) → (ltb 0 (st .«inline_block» .level) || isInlineBlock (x .options) info) ≡ beginsInline (x .options) info blocks
-  unfolding beginsInline
-  begins-is info = rw (active-is (st .«inline_block») m)
-
-  folded-is : (inlined : Bool) → foldedIn s x i inlined (previousTopLevelReserved stacks)
+  folded-is : (inlined : Bool) → foldedIn s x i inlined stacks
       ≡ (not inlined && (isSome (envIn s x (length d) .options .«max_inline_top_level») && (holds (kindIs ReservedTopLevel) (previousNonWhitespaceToken (hereIn s x i)) && holds foldsIn (previousTopLevelReserved (now .indentation)))))
   unfolding foldedIn stateOf envOf
   folded-is inlined = rw (ready .known .options, last-top-level)
 
-  full-is : leb 128 (st .indentation .nkinds) ≡ full (now .indentation .indentTypes)
+  full-is : full (now .indentation .indentTypes) ≡ full (stacks .indentTypes)
   unfolding stateOf onWords
-  full-is = stack-full-is (st .indentation) m (ready .steady .stacks)
+  full-is = refl
 
   level-is : (folded : Bool) → indentLevel false (increaseBlockLevel folded (onWords name stacks)) ≡ indentLevel false (increaseBlockLevel folded stacks)
   level-is folded = rw (← block-words name folded stacks) (level-words name false (increaseBlockLevel folded stacks))
 
-  abbrev openingAt : Bool → Bool → ℕ → Opening
-  openingAt inlined folded level = openingIn s x i (leb 128 (st .indentation .nkinds)) (leb 128 (st .«inline_block» .level)) inlined folded level
-
   opening-rule : (info : BlockInfo) (inlined folded : Bool) (level : ℕ)
-      → info ≡ buildInfo (hereIn s x i .token ∷ hereIn s x i .after)
       → inlined ≡ beginsInline (x .options) info blocks
-      → folded ≡ foldedIn s x i inlined (previousTopLevelReserved stacks)
+      → folded ≡ foldedIn s x i inlined stacks
       → level ≡ indentLevel false (increaseBlockLevel folded stacks)
-      → onBlock formatOpeningParentheses (envIn s x (length d)) (hereIn s x i) now
+      → formatOpeningParentheses (envIn s x (length d)) (hereIn s x i) info now
       ≡ record {
-        text = opening (length d) (x .options) (openingAt inlined folded level) (bracketIn s x i) (textOf (st .text) d);
+        text = opening (length d) (x .options) (openingIn s x i stacks blocks inlined folded level) (bracketIn s x i) (textOf (st .text) d);
         indentation = onWords name (increaseBlockLevel folded stacks);
         inlineBlock = beginIfPossible inlined (info .length) blocks;
         blockLevel = st .«block_level» + 1;
         index = st .index;
       }
   unfolding opening stateOf envOf
-  opening-rule info inlined folded level ei en ef el =
-      rw (el, ← level-is folded, block-words name folded stacks, bracket-is s x (length d) i (ready .known), full-is, blocks-full-is (st .«inline_block») m, add-one (st .«block_level»), ef, folded-is inlined, en, ready .known .options, ei)
-      (halves.opening (envIn s x (length d)) (hereIn s x i) now (buildInfo (hereIn s x i .token ∷ hereIn s x i .after)))
+  opening-rule info inlined folded level en ef el =
+      rw (el, ← level-is folded, block-words name folded stacks, bracket-is s x (length d) i (ready .known), ← full-is, add-one (st .«block_level»), ef, folded-is inlined, en, ready .known .options)
+      (halves.opening (envIn s x (length d)) (hereIn s x i) now info)
 
-  module _ (folded : Bool) (into : Counts) (n : List ℕ) (stands : Stands (increaseBlockLevel folded stacks) m into n) where
-    pub begin-clean : block.Clean (st .«inline_block») n
-    begin-clean = blocks-clean s x i st m d ready (increaseBlockLevel folded stacks) into n stands
-
-    pub by-opening : (info : BlockInfo) (inlined : Bool) (last : TopLevel) (level : ℕ) (how : Opening) (t : CodeText) (l : InlineBlock) (p q : List ℕ)
-        → info ≡ buildInfo (hereIn s x i .token ∷ hereIn s x i .after)
-        → inlined ≡ (ltb 0 (st .«inline_block» .level) || isInlineBlock (x .options) info)
-        → spanIn last ≡ previousTopLevelReserved stacks
-        → folded ≡ foldedIn s x i inlined (spanIn last)
-        → level ≡ indentLevel false (indentationOf into n)
-        → how ≡ openingAt inlined folded level
-        → Laid (length d) (opening (length d) (x .options) how (bracketIn s x i) (textOf (st .text) d)) t q
-        → block.Stands (beginIfPossible inlined (info .length) (block.inlineBlockOf (st .«inline_block») n)) n l p
-        → Handled s x i (onBlock formatOpeningParentheses) st m d (record { text = t; indentation = into; «inline_block» = l; «block_level» = st .«block_level» + 1; index = st .index }) p q
-    by-opening info inlined last level how t l p q ei en es ef el eh laid inline =
-        let k = ready .steady .level in
-        by-whole s x i st m d ready (increaseBlockLevel folded stacks) into n stands (onBlock formatOpeningParentheses)
-        (opening (length d) (x .options) how (bracketIn s x i) (textOf (st .text) d))
-        (beginIfPossible inlined (info .length) blocks) (st .«block_level» + 1) t l p q
-        laid (block-below (i + 1) stacks (below-up (omega arith) (ready .steady .words)) folded)
-        (rw (blocks-same (st .«inline_block») m n (stands .above)) at inline) (omega arith)
-        (rw eh (opening-rule info inlined folded level ei (en ∙ begins-is info) (ef ∙ ap (foldedIn s x i inlined) es) (el ∙ ap (indentLevel false) (stands .is))))
+  pub by-opening : (info : BlockInfo) (inlined folded : Bool) (into : Stacks) (level : ℕ) (how : Opening) (t : CodeText) (l : InlineBlock) (q : List ℕ)
+      → inlined ≡ beginsInline (x .options) info blocks
+      → folded ≡ foldedIn s x i inlined stacks
+      → Stands (increaseBlockLevel folded stacks) into
+      → level ≡ indentLevel false (indentationOf into)
+      → how ≡ openingIn s x i stacks blocks inlined folded level
+      → Laid (length d) (opening (length d) (x .options) how (bracketIn s x i) (textOf (st .text) d)) t q
+      → block.Stands (beginIfPossible inlined (info .length) blocks) l
+      → Handled s x i (given formatOpeningParentheses info) st d (record { text = t; indentation = into; «inline_block» = l; «block_level» = st .«block_level» + 1; index = st .index }) q
+  by-opening info inlined folded into level how t l q en ef stands el eh laid inline =
+      let k = ready .steady .level in
+      by-whole s x i (given formatOpeningParentheses info) st d ready
+      (opening (length d) (x .options) how (bracketIn s x i) (textOf (st .text) d))
+      (increaseBlockLevel folded stacks) (beginIfPossible inlined (info .length) blocks) (st .«block_level» + 1) t into l q
+      laid stands (block-below (i + 1) stacks (below-up (omega arith) (ready .steady .words)) folded) inline (omega arith)
+      (rw eh (opening-rule info inlined folded level en ef (el ∙ ap (indentLevel false) (stands .is))))

@@ -1,32 +1,22 @@
--- The tests of a bracket, read from the sheet and from what its handler read of the stacks.
+-- The tests of a bracket, read from the sheet and from the code's stacks.
 use mathlib.Core.Bool.{Bool, not, _&&_}
-use mathlib.Core.List.{List, _∷_}
-use mathlib.Core.Option.{Option}
+use mathlib.Core.List.{List}
 use Prim.Native.Nat.{ℕ}
 use lib.Dec.{eqb}
-use Rattle.rules.specs.declared.BlockInfo.{BlockInfo}
 use Rattle.rules.specs.declared.Case.{Case}
 use Rattle.rules.specs.declared.FormatOptions.{FormatOptions}
-use Rattle.rules.specs.declared.SpanInfo.{SpanInfo}
 use Rattle.rules.specs.declared.TokenKind.the-variants.{ReservedTopLevel}
-use Rattle.rules.specs.Base.{holds, isSome, choose}
+use Rattle.rules.specs.Base.{choose, holds, isSome}
 use Rattle.rules.specs.Bytes.{bytes}
-use Rattle.rules.specs.Tokens.{Here}
-use Rattle.rules.specs.Sheet.{Env}
 use Rattle.rules.specs.Text.{Text, inCase, isLower}
-use Rattle.rules.specs.State.{State}
-use Rattle.rules.specs.Indentation.{Indentation, unfolded}
-use Rattle.rules.specs.InlineBlock.{buildInfo}
+use Rattle.rules.specs.Indentation.{Indentation, unfolded, previousTopLevelReserved}
+use Rattle.rules.specs.InlineBlock.{full}
 use Rattle.rules.specs.Formatter.{kindIs, previousNonWhitespaceToken, foldsIn, cutsBefore, blankBetween}
 use Rattle.keeps.specs.CaseOf.{caseOf}
 use Rattle.query.specs.Query.{closingInline, closing}
 use Rattle.query_brackets.specs.declared.Opening.{Opening}
 use Rattle.state.specs.declared.Context.{Context}
 use Rattle.state.specs.Of.{wordOf, hereIn}
-
--- a handler that reads the block ahead
-abbrev pub onBlock : (Env → Here → BlockInfo → State → State) → Env → Here → State → State
-onBlock f e h s = f e h (buildInfo (h .token ∷ h .after)) s
 
 -- the case of token i, and its value in that case
 abbrev pub caseIn : List ℕ → Context → ℕ → Case
@@ -37,17 +27,17 @@ bracketIn s x i = inCase (caseIn s x i) (wordOf s (x .base) i)
 
 -- ---- an opening bracket
 
--- the bracket is folded into the top-level word before it, last being the last one's span
-unfoldable pub foldedIn : List ℕ → Context → ℕ → Bool → Option SpanInfo → Bool
-foldedIn s x i inlined last =
-    not inlined && (isSome (x .options .«max_inline_top_level») && (holds (kindIs ReservedTopLevel) (previousNonWhitespaceToken (hereIn s x i)) && holds foldsIn last))
+-- the bracket is folded into the top-level word before it
+unfoldable pub foldedIn : List ℕ → Context → ℕ → Bool → Indentation ℕ → Bool
+foldedIn s x i inlined n =
+    not inlined && (isSome (x .options .«max_inline_top_level») && (holds (kindIs ReservedTopLevel) (previousNonWhitespaceToken (hereIn s x i)) && holds foldsIn (previousTopLevelReserved n)))
 
 -- what the bracket does to the text, level being that after it
-abbrev pub openingIn : List ℕ → Context → ℕ → Bool → Bool → Bool → Bool → ℕ → Opening
-openingIn s x i fullStack fullBlocks inlined folded level =
+abbrev pub openingIn : List ℕ → Context → ℕ → Indentation ℕ → List ℕ → Bool → Bool → ℕ → Opening
+openingIn s x i n blocks inlined folded level =
     record {
-      six = fullStack;
-      seven = inlined && fullBlocks;
+      six = full (n .indentTypes);
+      seven = inlined && full blocks;
       cuts = cutsBefore (hereIn s x i);
       between = blankBetween (hereIn s x i);
       folded = folded;

@@ -1,17 +1,17 @@
 // Handlers of brackets: a block begins, and a block ends.
 ghost use mathlib.Core.Path.{_≡_};
-ghost use mathlib.Core.Bool.{_&&_, _||_};
+ghost use mathlib.Core.Bool.{_&&_};
 ghost use Prim.Native.Nat.{_≤_, _<_};
-ghost use lib.Dec.{leb, ltb};
 ghost use lib.ListN.{length};
 ghost use Rattle.rules.specs.Base.{holds, isSome};
-ghost use Rattle.rules.specs.InlineBlock.{isInlineBlock};
+ghost use Rattle.rules.specs.InlineBlock.{beginsInline, full};
 ghost use Rattle.rules.specs.Formatter.{foldsIn, formatOpeningParentheses, formatClosingParentheses};
 ghost use Rattle.indentation.specs.Of.{spanIn, indentationOf, Clean};
+ghost use Rattle.inline_block.specs.Of.{inlineBlockOf};
 ghost use Rattle.text.specs.Held.{textOf, Held, Laid};
 ghost use Rattle.query_brackets.specs.Opening.{opening};
-ghost use Rattle.state.specs.Of.{Known, Ready, Handled};
-ghost use Rattle.brackets.specs.Brackets.{onBlock, caseIn, bracketIn, foldedIn, openingIn, endsUnder, closingOf};
+ghost use Rattle.state.specs.Of.{Known, Ready, Handled, given};
+ghost use Rattle.brackets.specs.Brackets.{caseIn, bracketIn, foldedIn, openingIn, endsUnder, closingOf};
 use indentation::Indentation;
 use indentation::TopLevel;
 use inline_block::InlineBlock;
@@ -29,7 +29,7 @@ use text::Text;
 
 // Inside an inline block every block is inline.
 fn begins_inline(o: FormatOptions, info: BlockInfo, inline: InlineBlock) -> bool
-    ensures { λ r. ⌜ r ≡ (ltb 0 (inline .level) || isInlineBlock o info) ⌝ }
+    ensures { λ r. ⌜ r ≡ beginsInline o info (inlineBlockOf inline) ⌝ }
 {
     if inline.is_active() {
         return true;
@@ -62,9 +62,9 @@ fn folds_in(last: TopLevel) -> bool
     sp.arguments == 1
 }
 
-fn is_folded(sheet: &[u8], x: Context, i: usize, inlined: bool, last: TopLevel) -> bool
-    requires { ⌜ (Known (now sheet) x) × (i < x .counts .tokens) ⌝ }
-    ensures { λ r. ⌜ r ≡ foldedIn (now (sheet .entry)) x i inlined (spanIn last) ⌝ }
+fn is_folded(sheet: &[u8], x: Context, i: usize, inlined: bool, stacks: Indentation) -> bool
+    requires { ⌜ (Known (now sheet) x) × (i < x .counts .tokens) × (Clean stacks) ⌝ }
+    ensures { λ r. ⌜ r ≡ foldedIn (now (sheet .entry)) x i inlined (indentationOf stacks) ⌝ }
 {
     if inlined {
         return false;
@@ -78,12 +78,12 @@ fn is_folded(sheet: &[u8], x: Context, i: usize, inlined: bool, last: TopLevel) 
     if !around::after_top_level_word(sheet, x.base, c.tokens, i) {
         return false;
     }
-    folds_in(last)
+    folds_in(stacks.previous_top_level_reserved())
 }
 
 // Refusal 7: there is no room for one inline block more.
 fn is_over(inlined: bool, inline: InlineBlock) -> bool
-    ensures { λ r. ⌜ r ≡ (inlined && leb 128 (inline .level)) ⌝ }
+    ensures { λ r. ⌜ r ≡ (inlined && full (inlineBlockOf inline)) ⌝ }
 {
     if !inlined {
         return false;
@@ -95,21 +95,21 @@ fn opening_at(
     sheet: &[u8],
     x: Context,
     i: usize,
-    indentation: Indentation,
+    stacks: Indentation,
     inline: InlineBlock,
     inlined: bool,
     folded: bool,
     level: usize,
 ) -> Opening
-    requires { ⌜ (Known (now sheet) x) × (i < x .counts .tokens) ⌝ }
-    ensures { λ r. ⌜ r ≡ openingIn (now (sheet .entry)) x i (leb 128 (indentation .nkinds)) (leb 128 (inline .level)) inlined folded level ⌝ }
+    requires { ⌜ (Known (now sheet) x) × (i < x .counts .tokens) × (Clean stacks) ⌝ }
+    ensures { λ r. ⌜ r ≡ openingIn (now (sheet .entry)) x i (indentationOf stacks) (inlineBlockOf inline) inlined folded level ⌝ }
 {
     let v = value_of(sheet, x, i);
     let c = x.counts;
     let n = c.tokens;
     let base = x.base;
     Opening {
-        six: indentation.is_full(),
+        six: stacks.is_full(),
         seven: is_over(inlined, inline),
         cuts: around::cuts_before(sheet, base, n, i),
         between: around::blank_between(sheet, base, n, i),
@@ -144,31 +144,28 @@ fn push_opening(query: &mut [u8], t: Text, sheet: &[u8], x: Context, i: usize, h
 
 pub fn format_opening_parentheses(
     query: &mut [u8],
-    stacks: &mut [u32],
     s: State,
     sheet: &[u8],
     x: Context,
     i: usize,
+    info: BlockInfo,
 ) -> State
-    requires { ⌜ Ready (now sheet) x i s (now stacks) (now query) ⌝ }
-    ensures { λ r. ⌜ Handled (now (sheet .entry)) x i (onBlock formatOpeningParentheses) s (now (stacks .entry)) (now (query .entry)) r (now (stacks .exit)) (now (query .exit)) ⌝ }
+    requires { ⌜ Ready (now sheet) x i s (now query) ⌝ }
+    ensures { λ r. ⌜ Handled (now (sheet .entry)) x i (given formatOpeningParentheses info) s (now (query .entry)) r (now (query .exit)) ⌝ }
 {
-    let indentation = s.indentation;
+    let stacks = s.indentation;
     let inline = s.inline_block;
     let o = x.options;
-    let c = x.counts;
-    let info = blocks::build_info(sheet, x.base, c.tokens, i);
     let inlined = begins_inline(o, info, inline);
-    let last = indentation.previous_top_level_reserved(stacks);
-    let folded = is_folded(sheet, x, i, inlined, last);
-    let into = indentation.increase_block_level(stacks, folded);
-    let level = into.indent_level(stacks, false);
-    let how = opening_at(sheet, x, i, indentation, inline, inlined, folded, level);
+    let folded = is_folded(sheet, x, i, inlined, stacks);
+    let into = stacks.increase_block_level(folded);
+    let level = into.indent_level(false);
+    let how = opening_at(sheet, x, i, stacks, inline, inlined, folded, level);
     let t = s.text;
     State {
         text: push_opening(query, t, sheet, x, i, how),
         indentation: into,
-        inline_block: inline.begin_if_possible(stacks, inlined, info.length),
+        inline_block: inline.begin_if_possible(inlined, info.length),
         block_level: s.block_level + 1,
         index: s.index,
     }
@@ -177,9 +174,9 @@ pub fn format_opening_parentheses(
 // ---- a closing bracket
 
 // Refusal 8: a folded block ends where no entry is left that counts.
-fn ends_under(stacks: &[u32], o: FormatOptions, folded: bool, left: Indentation) -> bool
-    requires { ⌜ Clean left (now stacks) ⌝ }
-    ensures { λ r. ⌜ r ≡ endsUnder o folded (indentationOf left (now (stacks .entry))) ⌝ }
+fn ends_under(o: FormatOptions, folded: bool, left: Indentation) -> bool
+    requires { ⌜ Clean left ⌝ }
+    ensures { λ r. ⌜ r ≡ endsUnder o folded (indentationOf left) ⌝ }
 {
     if !folded {
         return false;
@@ -187,7 +184,7 @@ fn ends_under(stacks: &[u32], o: FormatOptions, folded: bool, left: Indentation)
     if o.inline {
         return false;
     }
-    left.indent_level(stacks, false) == 0
+    left.indent_level(false) == 0
 }
 
 fn push_closing(
@@ -216,29 +213,28 @@ fn push_closing(
 
 pub fn format_closing_parentheses(
     query: &mut [u8],
-    stacks: &mut [u32],
     s: State,
     sheet: &[u8],
     x: Context,
     i: usize,
 ) -> State
-    requires { ⌜ Ready (now sheet) x i s (now stacks) (now query) ⌝ }
-    ensures { λ r. ⌜ Handled (now (sheet .entry)) x i formatClosingParentheses s (now (stacks .entry)) (now (query .entry)) r (now (stacks .exit)) (now (query .exit)) ⌝ }
+    requires { ⌜ Ready (now sheet) x i s (now query) ⌝ }
+    ensures { λ r. ⌜ Handled (now (sheet .entry)) x i formatClosingParentheses s (now (query .entry)) r (now (query .exit)) ⌝ }
 {
-    let indentation = s.indentation;
+    let stacks = s.indentation;
     let inline = s.inline_block;
     let o = x.options;
-    let closed = indentation.decrease_block_level(stacks);
+    let closed = stacks.decrease_block_level();
     let left = closed.left;
-    let eight = ends_under(stacks, o, closed.folded, left);
-    let level = left.indent_level(stacks, closed.folded);
+    let eight = ends_under(o, closed.folded, left);
+    let level = left.indent_level(closed.folded);
     let active = inline.is_active();
     let t = s.text;
     State {
         text: push_closing(query, t, sheet, x, i, active, eight, level),
         indentation: left,
         // Where none is open it stays as it is.
-        inline_block: inline.end(stacks),
+        inline_block: inline.end(),
         block_level: ahead::less(s.block_level),
         index: s.index,
     }

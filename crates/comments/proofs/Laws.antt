@@ -31,30 +31,30 @@ by-other a b f r e h g = rw (← e, not-false f h, g)
 
 -- ---- the handlers
 
-module _ (s : List ℕ) (x : Context) (i : ℕ) (st : Code) (m d : List ℕ) (ready : Ready s x i st m d) (v : Value) (e : v ≡ valueIn s x i) (t : CodeText) (r : Code) (q : List ℕ) where
+module _ (s : List ℕ) (x : Context) (i : ℕ) (st : Code) (d : List ℕ) (ready : Ready s x i st d) (v : Value) (e : v ≡ valueIn s x i) (t : CodeText) (r : Code) (q : List ℕ) where
   abbrev now : State
-  now = stateOf s (x .base) st m d
+  now = stateOf s (x .base) st d
 
   pub by-type-specifier : (b : Bool) → b ≡ halves.spacedAfter (envIn s x (length d)) (hereIn s x i) now
-      → Laid (length d) (Query.typeSpecifier (length d) (bytes s (v .start) (v .len)) b (textOf (st .text) d)) t q → r ≡ withText st t → Handled s x i formatTypeSpecifier st m d r m q
+      → Laid (length d) (Query.typeSpecifier (length d) (bytes s (v .start) (v .len)) b (textOf (st .text) d)) t q → r ≡ withText st t → Handled s x i formatTypeSpecifier st d r q
   unfolding envOf
-  by-type-specifier b h laid y =
-      by-value s x i formatTypeSpecifier st m d ready (λ w. Query.typeSpecifier (length d) w b) v t r q e laid y
+  by-type-specifier b h laid m =
+      by-value s x i formatTypeSpecifier st d ready (λ w. Query.typeSpecifier (length d) w b) v t r q e laid m
       (rw h (halves.type-specifier (envIn s x (length d)) (hereIn s x i) now))
 
-  module _ (level : ℕ) (l : level ≡ indentLevel false (indentationOf (st .indentation) m)) where
+  module _ (level : ℕ) (l : level ≡ indentLevel false (indentationOf (st .indentation))) where
     level-now : level ≡ indentLevel false (now .indentation)
-    level-now = l ∙ sym (level-is s (x .base) st m d false)
+    level-now = l ∙ sym (level-is s (x .base) st d false)
 
     pub by-line-comment : (breaks comma : Bool) → breaks ≡ (afterLineFeed (hereIn s x i) && whiteThenNoOperator (hereIn s x i)) → comma ≡ twoAfterComma (hereIn s x i)
-        → Laid (length d) (Query.lineComment (length d) (x .options) level breaks comma (bytes s (v .start) (v .len)) (textOf (st .text) d)) t q → r ≡ withText st t → Handled s x i formatLineComment st m d r m q
+        → Laid (length d) (Query.lineComment (length d) (x .options) level breaks comma (bytes s (v .start) (v .len)) (textOf (st .text) d)) t q → r ≡ withText st t → Handled s x i formatLineComment st d r q
     unfolding envOf
-    by-line-comment breaks comma b k laid y =
-        by-value s x i formatLineComment st m d ready (λ w. Query.lineComment (length d) (x .options) level breaks comma w) v t r q e laid y
+    by-line-comment breaks comma b k laid m =
+        by-value s x i formatLineComment st d ready (λ w. Query.lineComment (length d) (x .options) level breaks comma w) v t r q e laid m
         (rw (ready .known .options, level-now, b, k) (halves.line-comment (envIn s x (length d)) (hereIn s x i) now))
 
-    pub by-block-comment : Laid (length d) (Query.blockComment (length d) (x .options) level (bytes s (v .start) (v .len)) (textOf (st .text) d)) t q → r ≡ withText st t → Handled s x i formatBlockComment st m d r m q
+    pub by-block-comment : Laid (length d) (Query.blockComment (length d) (x .options) level (bytes s (v .start) (v .len)) (textOf (st .text) d)) t q → r ≡ withText st t → Handled s x i formatBlockComment st d r q
     unfolding envOf
-    by-block-comment laid y =
-        by-value s x i formatBlockComment st m d ready (λ w. Query.blockComment (length d) (x .options) level w) v t r q e laid y
+    by-block-comment laid m =
+        by-value s x i formatBlockComment st d ready (λ w. Query.blockComment (length d) (x .options) level w) v t r q e laid m
         (rw (ready .known .options, level-now) (halves.block-comment (envIn s x (length d)) (hereIn s x i) now))

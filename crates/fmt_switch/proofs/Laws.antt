@@ -4,7 +4,8 @@ use mathlib.Core.Bool.{Bool, true, false}
 use mathlib.Core.Option.{Option, none, some}
 use mathlib.Core.List.{List, [], _∷_}
 use Prim.Native.Nat.{ℕ, zero, suc, _+_, _-_, _≤_, _<_}
-use native.Mathlib.Nat.{sub-zero, add-zero, add-suc}
+use native.Mathlib.Nat.{sub-zero, add-zero}
+use native.Mathlib.Numerals.{add-one}
 use native.Mathlib.Omega.{arith}
 use lib.ListN.{length, getD, take, drop}
 use lib.Seq.{drop-cons}
@@ -16,10 +17,12 @@ use Rattle.rules.specs.declared.Turn.{Turn}
 use Rattle.rules.specs.declared.Turn.the-variants as turn
 use Rattle.rules.specs.Switch.{Reading, inState, done, moved, readAll, answered, checkFmtOff, switchIn, turnBy, turnOf}
 use Rattle.rules.proofs.TokenKind as kinds
+use Rattle.fmt_switch.specs.declared.Move.{Move}
+use Rattle.fmt_switch.specs.declared.Move.the-variants as move
 use Rattle.fmt_switch.specs.declared.Said.{Said}
 use Rattle.fmt_switch.specs.declared.Said.the-variants as said
 use Rattle.fmt_switch.specs.declared.Switch.{Switch as Code}
-use Rattle.fmt_switch.specs.Of.{movedBy, isComment, saidOf, switchOf}
+use Rattle.fmt_switch.specs.Of.{movedAs, isComment, saidOf, switchOf}
 
 others : List ℕ
 others = 0 ∷ 1 ∷ 2 ∷ 3 ∷ 4 ∷ 5 ∷ 6 ∷ 7 ∷ 8 ∷ 9 ∷ 10 ∷ 13 ∷ 14 ∷ 15 ∷ 16 ∷ []
@@ -65,43 +68,36 @@ unfolding readAll moved
 done-stays o [] = refl
 done-stays o (c ∷ cs) = done-stays o cs
 
-past-three : (state k : ℕ) → 3 < k → movedBy state k ≡ done none
-unfolding movedBy
-past-three state zero h = absurd (omega arith)
-past-three state (suc zero) h = absurd (omega arith)
-past-three state (suc (suc zero)) h = absurd (omega arith)
-past-three state (suc (suc (suc zero))) h = absurd (omega arith)
-past-three state (suc (suc (suc (suc k)))) h = refl
-
--- stay is 0 and next is 1
-goes-on : (state k : ℕ) → (k ≡ 2 → ⊥) → (k ≡ 3 → ⊥) → k ≤ 3 → movedBy state k ≡ inState (state + k)
-unfolding movedBy
-goes-on state zero two three h = rw add-zero
-goes-on state (suc zero) two three h = rw (add-suc, add-zero)
-goes-on state (suc (suc zero)) two three h = absurd (two refl)
-goes-on state (suc (suc (suc zero))) two three h = absurd (three refl)
-goes-on state (suc (suc (suc (suc k)))) two three h = absurd (omega arith)
-
-module _ (s : List ℕ) (start n i state m : ℕ) (r : Reading) (h : i < n) (l : start + n ≤ length s) (e : movedBy state m ≡ moved (inState state) (getD s (start + i) 0))
+module _ (s : List ℕ) (start n i state : ℕ) (m : Move) (r : Reading) (h : i < n) (l : start + n ≤ length s) (e : movedAs state m ≡ moved (inState state) (getD s (start + i) 0))
     (inv : readAll (inState state) (rest s start n i) ≡ r) where
-  one-read : readAll (movedBy state m) (rest s start n (i + 1)) ≡ r
+  one-read : readAll (movedAs state m) (rest s start n (i + 1)) ≡ r
   unfolding readAll
   one-read = rw e (sym (rw (rest-next s start n i h l)) ∙ inv)
 
-  pub by-step : (k : ℕ) → (m ≡ 2 → ⊥) → (m ≡ 3 → ⊥) → m ≤ 3 → k ≡ m → readAll (inState (state + k)) (rest s start n (i + 1)) ≡ r
-  by-step k two three q f = rw f (rw (goes-on state m two three q) at one-read)
+  pub by-stay : m ≡ move.Stay → readAll (inState state) (rest s start n (i + 1)) ≡ r
+  unfolding movedAs
+  by-stay q = rw q at one-read
 
-  pub by-on : m ≡ 2 → some false ≡ answered r
-  unfolding movedBy answered
-  by-on q = ap answered (sym (done-stays (some false) (rest s start n (i + 1))) ∙ (rw q at one-read))
+  pub by-next : m ≡ move.Next → readAll (inState (state + 1)) (rest s start n (i + 1)) ≡ r
+  unfolding movedAs
+  by-next q = rw add-one (rw q at one-read)
 
-  pub by-off : m ≡ 3 → some true ≡ answered r
-  unfolding movedBy answered
-  by-off q = ap answered (sym (done-stays (some true) (rest s start n (i + 1))) ∙ (rw q at one-read))
-
-  pub by-nothing : 3 < m → none ≡ answered r
+  -- a move that answers
+  answers : (o : Option Bool) → movedAs state m ≡ done o → o ≡ answered r
   unfolding answered
-  by-nothing q = ap answered (sym (done-stays none (rest s start n (i + 1))) ∙ (rw (past-three state m q) at one-read))
+  answers o q = ap answered (sym (done-stays o (rest s start n (i + 1))) ∙ (rw q at one-read))
+
+  pub by-on : m ≡ move.On → some false ≡ answered r
+  unfolding movedAs
+  by-on q = answers (some false) (rw q)
+
+  pub by-off : m ≡ move.Off → some true ≡ answered r
+  unfolding movedAs
+  by-off q = answers (some true) (rw q)
+
+  pub by-nothing : m ≡ move.Ends → none ≡ answered r
+  unfolding movedAs
+  by-nothing q = answers none (rw q)
 
 pub by-read : (s : List ℕ) (start n i state : ℕ) (r : Reading) → n ≤ i → readAll (inState state) (rest s start n i) ≡ r → none ≡ answered r
 unfolding answered readAll

@@ -1,156 +1,180 @@
--- The code's table is the rules' table, by one computation over the whole of it. Assumes nothing.
+-- The code's rows are the rules' rows, by one computation over the whole table; and a step of the recogniser. Assumes nothing.
 use mathlib.Core.Path.{_≡_, refl, sym, ap, _∙_}
 use mathlib.Core.Logic.{⊎-elim}
-use mathlib.Core.Bool.{Bool, true, false, _&&_}
+use mathlib.Core.Bool.{Bool, true, false, _||_}
 use mathlib.Core.Option.{Option, none, some}
-use mathlib.Core.List.{List, [], _∷_}
-use Prim.Native.Nat.{ℕ, zero, suc, _+_, _-_, _≤_, _<_}
-use native.Mathlib.Nat.{add-zero, add-suc, suc-add, zero-add}
-use native.Mathlib.Numerals.{add-one, lt-of-le-of-ne}
+use mathlib.Core.List.{List, [], _∷_, _++_, map}
+use Prim.Native.String.{String}
+use Prim.Native.Nat.{ℕ, zero, suc, _+_, _<_}
+use native.Mathlib.Numerals.{lt-of-le-of-ne}
 use native.Mathlib.Omega.{arith}
-use lib.Dec.{eqb, leb}
-use lib.ListN.{getD}
-use borrow.Author.Tests.{leb-true, eq-eqb, ne-eqb}
-use Rattle.rules.specs.Base.{if_then_else_, first}
-use Rattle.rules.specs.Sheet.{listOf}
-use Rattle.rules.specs.Switch.{Move, stay, next, answer, OnByte, _↪_, fmtTable, inState, movedTo, moved, movedBy as movedAs}
+use lib.Dec.{eqb}
+use lib.ListN.{length, getD}
+use borrow.Author.Tests.{eqb-true}
 use Rattle.stacks.specs.Laws.{same-or}
-use Rattle.fmt_switch.specs.Of.{movedBy}
+use Rattle.rules.specs.Bytes.{bytes}
+use Rattle.rules.specs.Base.{if_then_else_, anyOf, first}
+use Rattle.rules.specs.Switch.{stay, next, answer, OnLetters, _↪_, fmtTable, inState, movedBy, movedTo, moved}
+use Rattle.fmt_switch.specs.declared.Move.{Move}
+use Rattle.fmt_switch.specs.declared.Move.the-variants as move
+use Rattle.fmt_switch.specs.declared.OnByte.{OnByte}
+use Rattle.fmt_switch.specs.declared.Row.{Row}
+use Rattle.fmt_switch.specs.Of.{lettersOf, saysOn, entryOf, rowOf, ends, saysNothing, movedAs}
 
-abbrev pub rows : List ℕ
-rows = 0 ∷ 1 ∷ 2 ∷ 5 ∷ 7 ∷ 9 ∷ 11 ∷ 14 ∷ 18 ∷ 20 ∷ []
+getD-map : {A B : Type 0} (f : A → B) (l : List A) (n : ℕ) (a : A) (b : B) → n < length l → f (getD l n a) ≡ getD (map f l) n b
+getD-map f [] n a b h = absurd (omega arith)
+getD-map f (x ∷ l) zero a b h = refl
+getD-map f (x ∷ l) (suc n) a b h = getD-map f l n a b (omega arith)
 
-abbrev pub bytes : List ℕ
-bytes = 45 ∷ 45 ∷ 32 ∷ 102 ∷ 70 ∷ 109 ∷ 77 ∷ 116 ∷ 84 ∷ 32 ∷ 58 ∷ 32 ∷ 111 ∷ 79 ∷ 110 ∷ 78 ∷ 102 ∷ 70 ∷ 102 ∷ 70 ∷ []
+neither : (a b : Bool) → (a || b) ≡ false → (a ≡ false) × (b ≡ false)
+neither true b e = absurd (let z : _≡_ {A = ℕ} 0 1 = cc in omega arith)
+neither false b e = (refl, e)
 
-abbrev pub moves : List ℕ
-moves = 1 ∷ 1 ∷ 0 ∷ 1 ∷ 1 ∷ 1 ∷ 1 ∷ 1 ∷ 1 ∷ 0 ∷ 1 ∷ 0 ∷ 1 ∷ 1 ∷ 2 ∷ 2 ∷ 1 ∷ 1 ∷ 3 ∷ 3 ∷ []
+-- the rows of any table that says what the rules' table says
+row-said : (rows : List Row) (d : Row) (n : ℕ) → map rowOf rows ≡ fmtTable → n < length rows → rowOf (getD rows n d) ≡ getD fmtTable n []
+row-said rows d n e h = getD-map rowOf rows n d [] h ∙ ap (λ (l : List (List OnLetters)). getD l n []) e
 
-moveOf : ℕ → Move
-moveOf zero = stay
-moveOf (suc zero) = next
-moveOf (suc (suc zero)) = answer false
-moveOf (suc (suc (suc m))) = answer true
+-- no row starts with an entry that ends the reading
+row-starts : (rows : List Row) (d : Row) (n : ℕ) → anyOf saysNothing rows ≡ false → n < length rows → saysNothing (getD rows n d) ≡ false
+row-starts [] d n e h = absurd (omega arith)
+row-starts (r ∷ rows) d zero e h = neither (saysNothing r) (anyOf saysNothing rows) e .0
+row-starts (r ∷ rows) d (suc n) e h = row-starts rows d n (neither (saysNothing r) (anyOf saysNothing rows) e .1) (omega arith)
 
-entry : ℕ → OnByte
-entry j = getD bytes j 0 ↪ moveOf (getD moves j 0)
+-- ---- the code's table
 
-pub rowFrom : ℕ → ℕ → List OnByte
-rowFrom j end = listOf entry j (end - j)
+abbrev on : String → Move → OnByte
+on letters m = record { 0 = getD (bytes letters) 0 0; 1 = getD (bytes letters) 1 0; 2 = m }
 
-rowOf : ℕ → List OnByte
-rowOf n = rowFrom (getD rows n 0) (getD rows (n + 1) 0)
+abbrev alone : OnByte → Row
+alone e = record { 0 = e; 1 = record { 0 = 0; 1 = 0; 2 = move.Ends } }
 
--- the nine rows
-table-right : listOf rowOf 0 9 ≡ fmtTable
-unfolding rowOf rowFrom entry moveOf fmtTable _↪_ listOf
+abbrev and : OnByte → OnByte → Row
+and e f = record { 0 = e; 1 = f }
+
+abbrev pub rows : List Row
+rows =
+    alone (on "--" move.Next)
+    ∷ alone (on "--" move.Next)
+    ∷ and (on "  " move.Stay) (on "fF" move.Next)
+    ∷ alone (on "mM" move.Next)
+    ∷ alone (on "tT" move.Next)
+    ∷ and (on "  " move.Stay) (on "::" move.Next)
+    ∷ and (on "  " move.Stay) (on "oO" move.Next)
+    ∷ and (on "nN" move.On) (on "fF" move.Next)
+    ∷ alone (on "fF" move.Off)
+    ∷ []
+
+table-right : map rowOf rows ≡ fmtTable
+unfolding lettersOf saysOn entryOf rowOf _↪_ fmtTable
 table-right = refl
 
-getD-listOf : {A : Type 0} (f : ℕ → A) (d : A) (k i n : ℕ) → n < k → getD (listOf f i k) n d ≡ f (i + n)
-unfolding listOf
-getD-listOf f d zero i n h = absurd (omega arith)
-getD-listOf f d (suc k) i zero h = ap f (sym (add-zero i))
-getD-listOf f d (suc k) i (suc n) h = getD-listOf f d k (suc i) n (omega arith) ∙ ap f (suc-add i n ∙ sym (add-suc i n))
+table-says : anyOf saysNothing rows ≡ false
+unfolding ends saysNothing
+table-says = refl
 
-pub row-is : (n : ℕ) → n < 9 → getD fmtTable n [] ≡ rowFrom (getD rows n 0) (getD rows (n + 1) 0)
-unfolding rowOf
-row-is n h = rw (← table-right, getD-listOf rowOf [] 9 0 n h, zero-add)
+module _ (d : Row) (n : ℕ) (h : n < 9) where
+  pub row-is : rowOf (getD rows n d) ≡ getD fmtTable n []
+  row-is = row-said rows d n table-right h
 
--- ---- what a test finds of every number below n
+  pub row-says : saysNothing (getD rows n d) ≡ false
+  row-says = row-starts rows d n table-says h
 
-below : (ℕ → Bool) → ℕ → Bool
-below f zero = true
-below f (suc n) = f n && below f n
+-- ---- one byte
 
-both : (a b : Bool) → (a && b) ≡ true → (a ≡ true) × (b ≡ true)
-both true true e = (refl, refl)
-both true false e = absurd (let z : _≡_ {A = ℕ} 0 1 = cc in omega arith)
-both false b e = absurd (let z : _≡_ {A = ℕ} 0 1 = cc in omega arith)
+abbrev pub found : ℕ → List OnLetters → Option OnLetters
+found c row = first (λ m. anyOf (eqb c) (m .letters)) row
 
-below-at : (f : ℕ → Bool) (n : ℕ) → below f n ≡ true → (k : ℕ) → k < n → f k ≡ true
-unfolding below
-below-at f zero e k h = absurd (omega arith)
-below-at f (suc n) e k h =
-    let p = both (f n) (below f n) e in
-    ⊎-elim
-    (λ (q : k ≡ n). rw q (p .0))
-    (λ (q : k ≡ n → ⊥). below-at f n (p .1) k (lt-of-le-of-ne (omega arith) q))
-    (same-or k n)
+append-none : {A : Type 0} (l : List A) → (l ++ []) ≡ l
+append-none [] = refl
+append-none (x ∷ l) = ap (λ (m : List _). x ∷ m) (append-none l)
 
-pub row-within : (n : ℕ) → n < 9 → getD rows (n + 1) 0 ≤ 20
-unfolding below
-row-within n h = leb-true (getD rows (n + 1) 0) 20 (below-at (λ k. leb (getD rows (k + 1) 0) 20) 9 refl n h)
+or-false : (b : Bool) → (b || false) ≡ b
+or-false true = refl
+or-false false = refl
 
-move-known : (j : ℕ) → j < 20 → getD moves j 0 ≤ 3
-unfolding below
-move-known j h = leb-true (getD moves j 0) 3 (below-at (λ k. leb (getD moves k 0) 3) 20 refl j h)
+or-same : (b : Bool) → b ≡ (b || b)
+or-same true = refl
+or-same false = refl
 
--- ---- one entry
+any-letter : (c a b : ℕ) → anyOf (eqb c) (lettersOf a b) ≡ (eqb c a || eqb c b)
+unfolding lettersOf
+any-letter c a b = go (eqb a b) refl
+  where
+    go : (t : Bool) → eqb a b ≡ t → anyOf (eqb c) (if t then a ∷ [] else a ∷ b ∷ []) ≡ (eqb c a || eqb c b)
+    go true e = rw (or-false, ← eqb-true a b e) (or-same (eqb c a))
+    go false e = rw or-false
 
-row-next : (j end : ℕ) → j < end → rowFrom j end ≡ entry j ∷ rowFrom (j + 1) end
-unfolding rowFrom listOf
-row-next j end h =
-    let e : end - j ≡ suc (end - (j + 1)) = omega arith in
-    rw (e, add-one)
+-- an entry, and what comes after it: it is found by its letters, unless it ends the reading
+module _ (state c : ℕ) (e : OnByte) (rest : List OnLetters) (b : Bool) (eb : b ≡ (eqb c (e .0) || eqb c (e .1))) where
+  has-is : anyOf (eqb c) (lettersOf (e .0) (e .1)) ≡ b
+  has-is = any-letter c (e .0) (e .1) ∙ sym eb
 
-moves-as : (state m : ℕ) → m ≤ 3 → movedBy state m ≡ movedAs state (moveOf m)
-unfolding movedBy movedAs moveOf
-moves-as state zero h = refl
-moves-as state (suc zero) h = refl
-moves-as state (suc (suc zero)) h = refl
-moves-as state (suc (suc (suc zero))) h = refl
-moves-as state (suc (suc (suc (suc m)))) h = absurd (omega arith)
+  passed-by : b ≡ false → found c (entryOf e ++ rest) ≡ found c rest
+  unfolding entryOf saysOn
+  passed-by h = go (e .2)
+    where
+      go : (m : Move) → found c (saysOn m (lettersOf (e .0) (e .1)) ++ rest) ≡ found c rest
+      go move.Stay = rw (has-is, h)
+      go move.Next = rw (has-is, h)
+      go move.On = rw (has-is, h)
+      go move.Off = rw (has-is, h)
+      go move.Ends = refl
 
--- the entry of a byte, or none
-abbrev pub found : ℕ → List OnByte → Option OnByte
-found c row = first (λ m. eqb (m .byte) c) row
+  taken-by : b ≡ true → (e .2 ≡ move.Ends → found c rest ≡ none) → movedAs state (e .2) ≡ movedTo state (found c (entryOf e ++ rest))
+  unfolding entryOf saysOn movedAs movedTo movedBy
+  taken-by h ends = go (e .2) ends
+    where
+      go : (m : Move) → (m ≡ move.Ends → found c rest ≡ none) → movedAs state m ≡ movedTo state (found c (saysOn m (lettersOf (e .0) (e .1)) ++ rest))
+      go move.Stay z = rw (has-is, h)
+      go move.Next z = rw (has-is, h)
+      go move.On z = rw (has-is, h)
+      go move.Off z = rw (has-is, h)
+      go move.Ends z = rw (z refl)
 
--- the row of a state
-abbrev pub row : ℕ → List OnByte
-row state = rowFrom (getD rows state 0) (getD rows (state + 1) 0)
+false-true : {A : Type 0} → true ≡ false → A
+false-true e = absurd (let z : _≡_ {A = ℕ} 0 1 = cc in omega arith)
 
-module _ (state c : ℕ) (h : state < 9) where
-  moved-is : moved (inState state) c ≡ movedTo state (found c (row state))
+no-end : (m : Move) {A : Type 0} → ends m ≡ false → m ≡ move.Ends → A
+unfolding ends
+no-end m h e = false-true (rw e at h)
+
+module _ (state c : ℕ) (row : Row) (said : rowOf row ≡ getD fmtTable state []) (first-says : saysNothing row ≡ false) (a : Bool) (ea : a ≡ (eqb c (row .0 .0) || eqb c (row .0 .1))) where
+  moved-is : movedTo state (found c (rowOf row)) ≡ moved (inState state) c
   unfolding moved
-  moved-is = rw (row-is state h)
+  moved-is = rw said
 
-  pub by-byte : (j end : ℕ) → j < end → j < 20 → getD bytes j 0 ≡ c → found c (rowFrom j end) ≡ found c (row state) → movedBy state (getD moves j 0) ≡ moved (inState state) c
-  unfolding movedTo entry _↪_
-  by-byte j end l k e i =
-      let f : found c (rowFrom j end) ≡ some (entry j) = rw (row-next j end l, eq-eqb _ _ e) in
-      moves-as state (getD moves j 0) (move-known j k) ∙ sym (moved-is ∙ ap (movedTo state) (sym i ∙ f))
+  pub by-first : (m : Move) → m ≡ row .0 .2 → a ≡ true → movedAs state m ≡ moved (inState state) c
+  unfolding rowOf saysNothing
+  by-first m em h = rw em (taken-by state c (row .0) (entryOf (row .1)) a ea h (no-end (row .0 .2) first-says) ∙ moved-is)
 
-  pub by-other : (j end : ℕ) → j < end → (getD bytes j 0 ≡ c → ⊥) → found c (rowFrom j end) ≡ found c (row state) → found c (rowFrom (j + 1) end) ≡ found c (row state)
-  unfolding entry _↪_
-  by-other j end l e i = sym (rw (row-next j end l, ne-eqb _ _ e)) ∙ i
+  module _ (b : Bool) (eb : b ≡ (eqb c (row .1 .0) || eqb c (row .1 .1))) (h : a ≡ false) where
+    after-first : movedTo state (found c (entryOf (row .1) ++ [])) ≡ moved (inState state) c
+    unfolding rowOf
+    after-first = rw append-none (ap (movedTo state) (sym (passed-by state c (row .0) (entryOf (row .1)) a ea h)) ∙ moved-is)
 
-  pub by-none : (j end : ℕ) → end ≤ j → found c (rowFrom j end) ≡ found c (row state) → movedBy state 4 ≡ moved (inState state) c
-  unfolding movedTo movedBy rowFrom listOf
-  by-none j end l i =
-      let z : end - j ≡ 0 = omega arith in
-      let f : found c (rowFrom j end) ≡ none = rw z in
-      sym (moved-is ∙ ap (movedTo state) (sym i ∙ f))
+    pub by-second : (m : Move) → m ≡ row .1 .2 → b ≡ true → movedAs state m ≡ moved (inState state) c
+    by-second m em g = rw em (taken-by state c (row .1) [] b eb g (λ z. refl) ∙ after-first)
 
--- the last state has no next
-last-answers : (b d : Bool) → movedTo 8 (if b then some (102 ↪ answer true) else if d then some (70 ↪ answer true) else none) ≡ inState 9 → ⊥
-unfolding movedTo movedAs _↪_
-last-answers true d e = let z : _≡_ {A = ℕ} 0 1 = cc in omega arith
-last-answers false true e = let z : _≡_ {A = ℕ} 0 1 = cc in omega arith
-last-answers false false e = let z : _≡_ {A = ℕ} 0 1 = cc in omega arith
+    pub by-neither : b ≡ false → movedAs state move.Ends ≡ moved (inState state) c
+    unfolding movedAs movedTo
+    by-neither g = ap (movedTo state) (sym (passed-by state c (row .1) [] b eb g)) ∙ after-first
+
+-- ---- the last state has no next
+
+last-answers : (b : Bool) → movedTo 8 (if b then some ("fF" ↪ answer true) else none) ≡ inState 9 → ⊥
+unfolding movedTo movedBy _↪_
+last-answers true e = let z : _≡_ {A = ℕ} 0 1 = cc in omega arith
+last-answers false e = let z : _≡_ {A = ℕ} 0 1 = cc in omega arith
 
 last-ends : (c : ℕ) → moved (inState 8) c ≡ inState 9 → ⊥
 unfolding moved fmtTable _↪_
-last-ends c e = last-answers (eqb 102 c) (eqb 70 c) e
+last-ends c e = last-answers (anyOf (eqb c) (bytes "fF")) e
 
 -- so the next state is one of the nine
-pub still-state : (state c m k : ℕ) → state < 9 → (m ≡ 2 → ⊥) → (m ≡ 3 → ⊥) → m ≤ 3 → k ≡ m → movedBy state m ≡ moved (inState state) c → state + k < 9
-unfolding movedBy
-still-state state c zero k h two three q f e = omega arith
-still-state state c (suc zero) k h two three q f e =
+pub still-state : (state c : ℕ) (m : Move) → state < 9 → m ≡ move.Next → movedAs state m ≡ moved (inState state) c → state + 1 < 9
+unfolding movedAs
+still-state state c m h n e =
     ⊎-elim
-    (λ (p : state ≡ 8). absurd (last-ends c (sym (rw p at e))))
+    (λ (p : state ≡ 8). absurd (last-ends c (sym (rw (n, p) at e))))
     (λ (p : state ≡ 8 → ⊥). let g : state < 8 = lt-of-le-of-ne (omega arith) p in omega arith)
     (same-or state 8)
-still-state state c (suc (suc zero)) k h two three q f e = absurd (two refl)
-still-state state c (suc (suc (suc zero))) k h two three q f e = absurd (three refl)
-still-state state c (suc (suc (suc (suc m)))) k h two three q f e = absurd (omega arith)

@@ -1,42 +1,54 @@
 // formatter.rs, `check_fmt_off` and how `format` takes a token.
 ghost use mathlib.Core.Path.{_≡_};
 ghost use mathlib.Core.Option.{none};
-ghost use mathlib.Core.Bool.{true, false};
+ghost use mathlib.Core.Bool.{false, _||_};
+ghost use mathlib.Core.List.{[]};
 ghost use Prim.Native.Nat.{_+_, _≤_, _<_};
-ghost use lib.ListN.{length, take, drop};
-ghost use Rattle.rules.specs.Switch.{inState, moved, checkFmtOff, turnBy, turnOf, switchAfter, switchedOn};
-ghost use Rattle.fmt_switch.specs.Of.{movedBy, isComment, saidOf, switchOf};
+ghost use lib.Dec.{eqb};
+ghost use lib.ListN.{length, getD, take, drop};
+ghost use Rattle.rules.specs.Switch.{fmtTable, inState, moved, checkFmtOff, turnBy, turnOf, switchAfter, switchedOn};
+ghost use Rattle.fmt_switch.specs.Of.{rowOf, saysNothing, movedAs, isComment, saidOf, switchOf};
 use rules::TokenKind;
 use rules::Turn;
 
-// Nine states and the bytes they move on: state n has the entries ROWS[n] to ROWS[n + 1] of the two tables below.
-const ROWS: [usize; 10] = [0, 1, 2, 5, 7, 9, 11, 14, 18, 20];
+// What a state does on a byte: it stays, goes on to the next, or answers on or off; without an entry for the byte the reading ends.
+pub enum Move {
+    Stay,
+    Next,
+    On,
+    Off,
+    Ends,
+}
 
-const BYTES: [u8; 20] = [
-    45,
-    45,
-    32,
-    102,
-    70,
-    109,
-    77,
-    116,
-    84,
-    32,
-    58,
-    32,
-    111,
-    79,
-    110,
-    78,
-    102,
-    70,
-    102,
-    70,
+// On either of two bytes: a letter, small and large.
+pub struct OnByte(pub u8, pub u8, pub Move);
+
+pub struct Row(pub OnByte, pub OnByte);
+
+// Where a row has one entry alone.
+const NO_MORE: OnByte = OnByte(0, 0, Move::Ends);
+
+// Nine states against the bytes they move on.
+const FMT_TABLE: [Row; 9] = [
+    Row(OnByte(b'-', b'-', Move::Next), NO_MORE),
+    Row(OnByte(b'-', b'-', Move::Next), NO_MORE),
+    Row(
+        OnByte(b' ', b' ', Move::Stay),
+        OnByte(b'f', b'F', Move::Next),
+    ),
+    Row(OnByte(b'm', b'M', Move::Next), NO_MORE),
+    Row(OnByte(b't', b'T', Move::Next), NO_MORE),
+    Row(
+        OnByte(b' ', b' ', Move::Stay),
+        OnByte(b':', b':', Move::Next),
+    ),
+    Row(
+        OnByte(b' ', b' ', Move::Stay),
+        OnByte(b'o', b'O', Move::Next),
+    ),
+    Row(OnByte(b'n', b'N', Move::On), OnByte(b'f', b'F', Move::Next)),
+    Row(OnByte(b'f', b'F', Move::Off), NO_MORE),
 ];
-
-// 0 stay, 1 next, 2 the answer on, 3 the answer off.
-const MOVES: [u8; 20] = [1, 1, 0, 1, 1, 1, 1, 1, 1, 0, 1, 0, 1, 1, 2, 2, 1, 1, 3, 3];
 
 // What a comment says.
 pub enum Said {
@@ -45,26 +57,40 @@ pub enum Said {
     Nothing,
 }
 
-// The move of a state on a byte; 4 where it has none.
-fn move_on(state: usize, c: u8) -> u8
+fn row_of(state: usize) -> Row
     requires { ⌜ state < 9 ⌝ }
-    ensures { λ r. ⌜ movedBy state r ≡ moved (inState state) c ⌝ }
+    ensures { λ r. ⌜ (rowOf r ≡ getD fmtTable state []) × (saysNothing r ≡ false) ⌝ }
 {
-    let end = ROWS[state + 1];
-    let mut j = ROWS[state];
-    while j < end {
-        if BYTES[j] == c {
-            return MOVES[j];
-        }
-        j += 1;
-    }
-    4
+    FMT_TABLE[state]
 }
 
-fn to_usize(m: u8) -> usize
-    ensures { λ r. ⌜ r ≡ m ⌝ }
+impl OnByte {
+    fn has(self, c: u8) -> bool
+        ensures { λ r. ⌜ r ≡ (eqb c (self .0) || eqb c (self .1)) ⌝ }
+    {
+        if c == self.0 {
+            return true;
+        }
+        c == self.1
+    }
+}
+
+fn move_on(state: usize, c: u8) -> Move
+    requires { ⌜ state < 9 ⌝ }
+    ensures { λ r. ⌜ movedAs state r ≡ moved (inState state) c ⌝ }
 {
-    m as usize
+    let row = row_of(state);
+    let one = row.0;
+    let two = row.1;
+    if one.has(c) {
+        let m = one.2;
+        return m;
+    }
+    if two.has(c) {
+        let m = two.2;
+        return m;
+    }
+    Move::Ends
 }
 
 // A comment is read by prefix: what follows the answer is not.
@@ -76,16 +102,21 @@ pub fn check_fmt_off(s: &[u8], start: usize, n: usize) -> Said
     let mut i: usize = 0;
     while i < n {
         let m = move_on(state, s[start + i]);
-        if m == 2 {
-            return Said::On;
+        match m {
+            Move::Stay => {}
+            Move::Next => {
+                state += 1;
+            }
+            Move::On => {
+                return Said::On;
+            }
+            Move::Off => {
+                return Said::Off;
+            }
+            Move::Ends => {
+                return Said::Nothing;
+            }
         }
-        if m == 3 {
-            return Said::Off;
-        }
-        if m > 3 {
-            return Said::Nothing;
-        }
-        state += to_usize(m);
         i += 1;
     }
     Said::Nothing

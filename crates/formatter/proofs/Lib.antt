@@ -1,2 +1,2 @@
-pub mod Laws
-pub mod Arms
+mod Laws
+mod Arms

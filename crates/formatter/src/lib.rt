@@ -1,139 +1,116 @@
 // formatter.rs, `format`: every token in turn, by the fmt switch and its kind.
 ghost use mathlib.Core.Path.{_≡_};
-ghost use Prim.Native.Nat.{_+_, _<_};
+ghost use mathlib.Core.Bool.{false};
+ghost use Prim.Native.Nat.{_≤_, _<_};
 ghost use lib.ListN.{length};
-ghost use Rattle.rules.specs.State.{start};
+ghost use Rattle.rules.specs.Span.{topLevelTokensInfo};
 ghost use Rattle.rules.specs.Answer.{takenAs};
-ghost use Rattle.state.specs.Of.{Known, Ready, Handled};
-ghost use Rattle.formatter.specs.Run.{tokenRule, Begun, Stepped, answerIn, kindIn};
+ghost use Rattle.state.specs.Of.{Known, Ready, Handled, withText, hereIn};
+ghost use Rattle.formatter.specs.Run.{tokenRule, changesKind, changesIn, Begun, answerIn, kindIn};
+ghost use Rattle.values.specs.On.{separates};
 ghost use Rattle.rules.specs.Answer.{reportOf, bufferOf, finish as finishOf};
 ghost use Rattle.text.specs.Held.{textOf, Held};
+use ahead::top_level_tokens_info;
+use around::is_byte;
 use fmt_switch::Switch;
 use indentation::Indentation;
 use inline_block::InlineBlock;
 use rules::Report;
+use rules::SpanInfo;
 use rules::TokenKind;
 use rules::Turn;
-use stacks::MEMORY;
 use state::Context;
 use state::State;
 use state::value_of;
 use text::Text;
 
-// The state and the switch, from token to token.
-struct Going {
-    state: State,
-    switch: Switch,
+// Whether a token that is laid out changes more of the state than the text.
+fn changes_state(sheet: &[u8], x: Context, i: usize, kind: TokenKind) -> bool
+    requires { ⌜ (Known (now sheet) x) × (i < x .counts .tokens) ⌝ }
+    ensures { λ r. ⌜ r ≡ changesKind kind (separates (now (sheet .entry)) x i) ⌝ }
+{
+    match kind {
+        TokenKind::Whitespace => false,
+        TokenKind::LineComment => false,
+        TokenKind::BlockComment => false,
+        TokenKind::TypeSpecifier => false,
+        TokenKind::String => is_byte(sheet, x.base, i, b';'),
+        TokenKind::Operator => is_byte(sheet, x.base, i, b';'),
+        TokenKind::Number => is_byte(sheet, x.base, i, b';'),
+        TokenKind::Word => is_byte(sheet, x.base, i, b';'),
+        TokenKind::Join => is_byte(sheet, x.base, i, b';'),
+        _ => true,
+    }
 }
 
-fn format_token(
+fn changes(sheet: &[u8], x: Context, i: usize, kind: TokenKind, turn: Turn) -> bool
+    requires { ⌜ (Known (now sheet) x) × (i < x .counts .tokens) ⌝ }
+    ensures { λ r. ⌜ r ≡ changesIn turn kind (separates (now (sheet .entry)) x i) ⌝ }
+{
+    match turn {
+        Turn::LaidOut => changes_state(sheet, x, i, kind),
+        _ => false,
+    }
+}
+
+// A token that changes the text alone.
+fn format_text(
     query: &mut [u8],
-    stacks: &mut [u32],
     s: State,
     sheet: &[u8],
     x: Context,
     i: usize,
     kind: TokenKind,
-) -> State
-    requires { ⌜ Ready (now sheet) x i s (now stacks) (now query) ⌝ }
+) -> Text
+    requires { ⌜ Ready (now sheet) x i s (now query) ⌝ }
     requires { ⌜ kind ≡ kindIn (now sheet) x i ⌝ }
-    ensures { λ r. ⌜ Handled (now (sheet .entry)) x i tokenRule s (now (stacks .entry)) (now (query .entry)) r (now (stacks .exit)) (now (query .exit)) ⌝ }
+    requires { ⌜ changesKind kind (separates (now sheet) x i) ≡ false ⌝ }
+    ensures { λ r. ⌜ Handled (now (sheet .entry)) x i tokenRule s (now (query .entry)) (withText s r) (now (query .exit)) ⌝ }
 {
+    let t = s.text;
     match kind {
-        TokenKind::Whitespace => s,
-        TokenKind::LineComment => comments::format_line_comment(query, stacks, s, sheet, x, i),
-        TokenKind::BlockComment => comments::format_block_comment(query, stacks, s, sheet, x, i),
-        TokenKind::ReservedTopLevel => top_level::format_top_level_reserved_word(
-            query,
-            stacks,
-            s,
-            sheet,
-            x,
-            i,
-        ),
-        TokenKind::ReservedTopLevelNoIndent => {
-            top_level::format_top_level_reserved_word_no_indent(query, stacks, s, sheet, x, i)
-        }
-        TokenKind::ReservedNewlineAfter => {
-            top_level::format_newline_after_reserved_word(query, stacks, s, sheet, x, i)
-        }
-        TokenKind::ReservedNewline => reserved::format_newline_reserved_word(
-            query,
-            stacks,
-            s,
-            sheet,
-            x,
-            i,
-        ),
-        TokenKind::Reserved => reserved::format_reserved(query, stacks, s, sheet, x, i),
-        TokenKind::OpenParen => brackets::format_opening_parentheses(query, stacks, s, sheet, x, i),
-        TokenKind::CloseParen => brackets::format_closing_parentheses(
-            query,
-            stacks,
-            s,
-            sheet,
-            x,
-            i,
-        ),
-        TokenKind::Placeholder => values::format_placeholder(query, stacks, s, sheet, x, i),
-        TokenKind::TypeSpecifier => comments::format_type_specifier(query, stacks, s, sheet, x, i),
-        _ => values::format_by_value(query, stacks, s, sheet, x, i),
+        TokenKind::Whitespace => t,
+        TokenKind::LineComment => comments::format_line_comment(query, s, sheet, x, i),
+        TokenKind::BlockComment => comments::format_block_comment(query, s, sheet, x, i),
+        TokenKind::TypeSpecifier => comments::format_type_specifier(query, s, sheet, x, i),
+        _ => values::format_by_value(query, s, sheet, x, i),
     }
 }
 
 // A switch comment and a dropped token do nothing else.
-fn taken_as(
+fn text_taken_as(
     query: &mut [u8],
-    stacks: &mut [u32],
     s: State,
     sheet: &[u8],
     x: Context,
     i: usize,
     kind: TokenKind,
     turn: Turn,
-) -> State
-    requires { ⌜ Ready (now sheet) x i s (now stacks) (now query) ⌝ }
+) -> Text
+    requires { ⌜ Ready (now sheet) x i s (now query) ⌝ }
     requires { ⌜ kind ≡ kindIn (now sheet) x i ⌝ }
-    ensures { λ r. ⌜ Handled (now (sheet .entry)) x i (takenAs turn) s (now (stacks .entry)) (now (query .entry)) r (now (stacks .exit)) (now (query .exit)) ⌝ }
+    requires { ⌜ changesIn turn kind (separates (now sheet) x i) ≡ false ⌝ }
+    ensures { λ r. ⌜ Handled (now (sheet .entry)) x i (takenAs turn) s (now (query .entry)) (withText s r) (now (query .exit)) ⌝ }
 {
+    let t = s.text;
     match turn {
-        Turn::Dropped => s,
-        Turn::Switches(_) => s,
-        Turn::LaidOut => format_token(query, stacks, s, sheet, x, i, kind),
-        Turn::Copied => values::format_no_change(query, stacks, s, sheet, x, i),
+        Turn::Dropped => t,
+        Turn::Switches(_) => t,
+        Turn::LaidOut => format_text(query, s, sheet, x, i, kind),
+        Turn::Copied => values::format_no_change(query, s, sheet, x, i),
     }
 }
 
-fn step(query: &mut [u8], stacks: &mut [u32], g: Going, sheet: &[u8], x: Context, i: usize) -> Going
-    requires { ⌜ Ready (now sheet) x i (g .state) (now stacks) (now query) ⌝ }
-    ensures { λ r. ⌜ Stepped (now (sheet .entry)) x i g (now (stacks .entry)) (now (query .entry)) r (now (stacks .exit)) (now (query .exit)) ⌝ }
-{
-    let kind = tokens::kind_at(sheet, i);
-    let v = value_of(sheet, x, i);
-    let switch = g.switch;
-    let turn = switch.turn_of(kind, sheet, v.start, v.len);
-    let s = g.state;
-    let state = taken_as(query, stacks, s, sheet, x, i, kind, turn);
-    Going {
-        state,
-        switch: switch.after(turn),
-    }
-}
-
-fn begin(query: &mut [u8]) -> Going
+fn begin(query: &mut [u8]) -> State
     ensures { λ r. ⌜ Begun r (length (now (query .entry))) (now (query .exit)) ⌝ }
 {
     let text = text::begin(query);
-    let state = State {
+    State {
         text,
         indentation: Indentation::new(),
         inline_block: InlineBlock::new(),
         block_level: 0,
         index: 0,
-    };
-    Going {
-        state,
-        switch: Switch::new(),
     }
 }
 
@@ -154,6 +131,16 @@ fn finish(query: &mut [u8], t: Text) -> Report
     }
 }
 
+// The span of a top-level word, block_len being the length of the inline block around it.
+fn span_info(sheet: &[u8], x: Context, i: usize, level: u32, block_len: u32) -> SpanInfo
+    requires { ⌜ (Known (now sheet) x) × (i < x .counts .tokens) × (level ≤ i) ⌝ }
+    ensures { λ r. ⌜ r ≡ topLevelTokensInfo (x .options) level «block_len» (hereIn (now (sheet .entry)) x i .after) ⌝ }
+{
+    let c = x.counts;
+    let o = x.options;
+    top_level_tokens_info(sheet, x.base, c.tokens, i, level, o, block_len)
+}
+
 pub fn format(query: &mut [u8], sheet: &[u8], x: Context) -> Report
     requires { ⌜ Known (now sheet) x ⌝ }
     ensures { λ r. ⌜ r ≡ reportOf (answerIn (now (sheet .entry)) x (length (now (query .entry)))) ⌝ }
@@ -161,12 +148,62 @@ pub fn format(query: &mut [u8], sheet: &[u8], x: Context) -> Report
 {
     let c = x.counts;
     let n = c.tokens;
-    let mut g = begin(query);
-    let mut stacks: [u32; MEMORY] = [0; MEMORY];
+    let mut s = begin(query);
+    let mut switch = Switch::new();
     let mut i: usize = 0;
     while i < n {
-        g = step(query, &mut stacks, g, sheet, x, i);
-        let s = g.state;
+        let kind = tokens::kind_at(sheet, i);
+        let v = value_of(sheet, x, i);
+        let turn = switch.turn_of(kind, sheet, v.start, v.len);
+        switch = switch.after(turn);
+        if changes(sheet, x, i, kind, turn) {
+            match kind {
+                TokenKind::ReservedTopLevel => {
+                    let inline = s.inline_block;
+                    let span = span_info(sheet, x, i, s.block_level, inline.cur_len());
+                    s = top_level::format_top_level_reserved_word(query, s, sheet, x, i, span);
+                }
+                TokenKind::ReservedTopLevelNoIndent => {
+                    let inline = s.inline_block;
+                    let span = span_info(sheet, x, i, s.block_level, inline.cur_len());
+                    s = top_level::format_top_level_reserved_word_no_indent(
+                        query,
+                        s,
+                        sheet,
+                        x,
+                        i,
+                        span,
+                    );
+                }
+                TokenKind::ReservedNewlineAfter => {
+                    let inline = s.inline_block;
+                    let span = span_info(sheet, x, i, s.block_level, inline.cur_len());
+                    s = top_level::format_newline_after_reserved_word(query, s, sheet, x, i, span);
+                }
+                TokenKind::ReservedNewline => {
+                    s = reserved::format_newline_reserved_word(query, s, sheet, x, i);
+                }
+                TokenKind::Reserved => {
+                    s = reserved::format_reserved(query, s, sheet, x, i);
+                }
+                TokenKind::OpenParen => {
+                    let info = blocks::build_info(sheet, x.base, n, i);
+                    s = brackets::format_opening_parentheses(query, s, sheet, x, i, info);
+                }
+                TokenKind::CloseParen => {
+                    s = brackets::format_closing_parentheses(query, s, sheet, x, i);
+                }
+                TokenKind::Placeholder => {
+                    s = values::format_placeholder(query, s, sheet, x, i);
+                }
+                _ => {
+                    s = values::format_query_separator(query, s, sheet, x, i);
+                }
+            }
+        } else {
+            let u = text_taken_as(query, s, sheet, x, i, kind, turn);
+            s.text = u;
+        }
         let t = s.text;
         if t.fault != 0 {
             return Report {
@@ -179,7 +216,6 @@ pub fn format(query: &mut [u8], sheet: &[u8], x: Context) -> Report
         }
         i += 1;
     }
-    let s = g.state;
     let t = s.text;
     finish(query, t)
 }

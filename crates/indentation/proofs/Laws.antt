@@ -1,28 +1,28 @@
 -- Laws of the stacks. Assumes nothing.
 use mathlib.Core.Path.{_≡_, refl, sym, ap, _∙_}
-use mathlib.Core.Bool.{Bool, true, false}
+use mathlib.Core.Bool.{Bool, true, false, _&&_}
+use mathlib.Core.Logic.{_⊎_, ⊎-elim}
 use mathlib.Core.List.{List, [], _∷_, map, tail}
 use Prim.Native.Nat.{ℕ, zero, suc, _+_, _-_, _≤_, _<_}
 use native.Mathlib.Omega.{arith}
-use mathlib.Core.Option.{none, some}
+use mathlib.Core.Option.{Option, none, some}
 use native.Mathlib.Nat.{sub-zero}
 use native.Mathlib.Numerals.{add-one}
-use lib.Dec.{eqb, leb}
+use lib.Dec.{eqb, leb, ltb}
 use lib.ListN.{length, getD, set, replicate, length-map}
-use lib.Seq.{getD-set-same}
-use borrow.Author.Tests.{le-leb, lt-leb, ne-eqb}
+use lib.Seq.{getD-set-same, set-getD}
+use borrow.Author.Tests.{le-leb, lt-leb, ne-eqb, eqb-true, ltb-true, ltb-false, lt-ltb}
 use Rattle.rules.specs.declared.IndentType.{IndentType}
 use Rattle.rules.specs.declared.IndentType.the-variants.{Top, Block, FoldedBlock}
 use Rattle.rules.specs.declared.SpanInfo.{SpanInfo}
-use Rattle.rules.specs.Base.{if_then_else_}
+use Rattle.rules.specs.Base.{if_then_else_, when}
 use Rattle.rules.specs.InlineBlock.{full}
-use Rattle.rules.specs.Indentation.{Indentation, PreviousTokens, Closed, noIndentation, markReserved, markTopLevel, increaseTopLevel, increaseBlockLevel, decreaseTopLevel, popTop, decreaseBlockLevel, popBlock, setPreviousReserved, setPreviousTopLevel, lastTopLevel, lastReserved, previousReserved, previousTopLevelReserved, unfolded, indentLevel, span, noPrevious as noneBefore}
-use Rattle.stacks.specs.Stack.{stack, Kept}
-use Rattle.stacks.specs.Laws.{length-stack, stack-push, stack-put, stack-pop, stack-popped, kept-push, kept-put, kept-pop, every-set, kept-none, every-same}
-use Rattle.previous.specs.declared.Previous.{Previous}
-use Rattle.indentation.specs.Stacks.{Stacks as Code, ClosedStacks as CodeClosed, typeOf, kindFor, weightOf, typesOf, indentationOf, lastOf, tops, endsTop, Clean, Stands, StandsClosed}
-use Rattle.previous.specs.Of.{Told, noPrevious, previousOf, reservedAfter, topLevelAfter, topOf, wordOf}
-use Rattle.indentation.specs.Unique.{false-true}
+use Rattle.rules.specs.Indentation.{Indentation, PreviousTokens, noIndentation, markReserved, markTopLevel, increaseTopLevel, increaseBlockLevel, decreaseTopLevel, popTop, decreaseBlockLevel, popBlock, setPreviousReserved, setPreviousTopLevel, lastTopLevel, lastReserved, previousReserved, previousTopLevelReserved, unfolded, indentLevel, span, noPrevious as noneBefore}
+use Rattle.stacks.specs.Stack.{stack, Kept, withinOf}
+use Rattle.stacks.specs.Laws.{length-stack, stack-push, stack-put, stack-pop, stack-popped, kept-push, kept-put, kept-pop, every-set, kept-none, every-same, same-or, left-of, right-of, unless-both}
+use Rattle.indentation.specs.declared.Indentation.{Indentation as Code}
+use Rattle.indentation.specs.declared.Previous.{Previous}
+use Rattle.indentation.specs.Of.{reservedAfter, topLevelAfter, topIn, typeOf, kindFor, weightOf, wordOf, topOf, previousOf, noPrevious, typesOf, indentationOf, lastOf, tops, endsTop, Told, Clean, Stands, StandsClosed}
 
 tops-within : (ts : List IndentType) → tops ts ≤ length ts
 unfolding tops
@@ -42,6 +42,39 @@ spans-room i c h =
     let t = tops-within (typesOf i) in
     let l = types-length i in
     omega arith
+
+false-true : {A : Type 0} → false ≡ true → A
+false-true e = absurd (let z : _≡_ {A = ℕ} 0 1 = cc in omega arith)
+
+-- ---- choices of numbers
+
+pub by-first : (n w t : ℕ) → n ≡ 0 → t + 1 ≡ (if eqb n 0 then t + 1 else w)
+by-first n w t z = rw z
+
+pub by-later : (n w t : ℕ) → (n ≡ 0 → ⊥) → w ≡ (if eqb n 0 then t + 1 else w)
+by-later n w t z = rw (ne-eqb n 0 z)
+
+pub by-no-kind : (n k : ℕ) → n ≡ 0 → false ≡ topIn n k
+unfolding topIn
+by-no-kind n k z = rw z
+
+pub by-kind : (n k : ℕ) → (n ≡ 0 → ⊥) → eqb k 0 ≡ topIn n k
+unfolding topIn
+by-kind zero k z = absurd (z refl)
+by-kind (suc n) k z = refl
+
+pub by-token : (w : ℕ) → (w ≡ 0 → ⊥) → some (w - 1) ≡ wordOf w
+unfolding wordOf
+by-token zero z = absurd (z refl)
+by-token (suc n) z = let e : suc n - 1 ≡ n = omega arith in rw e
+
+pub by-told : (b : Bool) (sp : SpanInfo) → b ≡ true → some sp ≡ topOf b sp
+unfolding topOf
+by-told b sp h = rw h
+
+pub by-untold : (b : Bool) (sp : SpanInfo) → b ≡ false → none ≡ topOf b sp
+unfolding topOf
+by-untold b sp h = rw h
 
 tail-map : {A B : Type 0} (f : A → B) (l : List A) → map f (tail l) ≡ tail (map f l)
 tail-map f [] = refl
@@ -160,11 +193,6 @@ by-nought zero h = absurd (omega arith)
 by-nought (suc zero) h = absurd (omega arith)
 by-nought (suc (suc k)) h = refl
 
-word-told : (w : ℕ) → (w ≡ 0 → ⊥) → some (w - 1) ≡ wordOf w
-unfolding wordOf
-word-told zero z = absurd (z refl)
-word-told (suc n) z = let e : suc n - 1 ≡ n = omega arith in rw e
-
 unfolded-kind : (k : ℕ) (ts : List IndentType) → unfolded (typeOf k ∷ ts) ≡ unfolded ts + weightOf k
 unfolding typeOf unfolded weightOf
 unfolded-kind zero ts = omega arith
@@ -253,10 +281,35 @@ module _ (i : Code) (c : Clean i) where
         };
       }
 
-  pub by-block : (folded : Bool) (k : ℕ) (v : Previous) → k ≡ kindFor folded → v ≡ noPrevious → i .nkinds < 128
+  -- the entry above the count is what a push would put there
+  kinds-above : set (i .kinds) (i .nkinds) 0 ≡ i .kinds
+  kinds-above = ap (set (i .kinds) (i .nkinds)) (sym (c .kinds .above (i .nkinds) (omega arith))) ∙ set-getD (i .kinds) (i .nkinds) 0
+
+  previous-above : set (i .previous) (i .nprevious) noPrevious ≡ i .previous
+  previous-above = ap (set (i .previous) (i .nprevious)) (sym (c .previous .above (i .nprevious) (omega arith))) ∙ set-getD (i .previous) (i .nprevious) noPrevious
+
+  stays : Stands (indentationOf i) i
+  stays = record { is = refl; clean = c }
+
+  pub by-top-if : (b g : Bool) (sp : SpanInfo) (at v n m : ℕ) → g ≡ (b && ltb (i .nkinds) 128) → at ≡ withinOf (i .nspans) → v ≡ (if g then sp .«full_span» else getD (i .spans) at 0) → n ≡ (if g then i .nspans + 1 else i .nspans) → m ≡ (if g then i .nkinds + 1 else i .nkinds)
+      → Stands (when b (increaseTopLevel sp) (indentationOf i))
+      (record { kinds = i .kinds; nkinds = m; spans = set (i .spans) at v; nspans = n; previous = i .previous; nprevious = i .nprevious })
+  unfolding when
+  by-top-if b true sp at v n m eg ea ev en em =
+      let h = ltb-true _ _ (right-of b _ (sym eg)) in
+      let r = lt-ltb _ _ (spans-room i c h) in
+      rw (left-of b _ (sym eg), ea, r, ev, en, em) (rw kinds-above at (by-top sp h))
+  by-top-if b false sp at v n m eg ea ev en em =
+      let f = unless-both b (ltb (i .nkinds) 128) (increaseTopLevel sp) (indentationOf i) (sym eg) (λ q. sym (by-top-full sp (ltb-false _ _ q) .is)) in
+      rw (f, ev, en, em, set-getD (i .spans) at 0) stays
+
+  pub by-block-if : (folded g : Bool) (at k v n m : ℕ) → g ≡ ltb (i .nkinds) 128 → at ≡ withinOf (i .nkinds) → k ≡ kindFor folded → v ≡ (if g then k else getD (i .kinds) at 0) → n ≡ (if g then i .nkinds + 1 else i .nkinds) → m ≡ (if g then i .nprevious + 1 else i .nprevious)
       → Stands (increaseBlockLevel folded (indentationOf i))
-      (record { kinds = set (i .kinds) (i .nkinds) k; nkinds = i .nkinds + 1; spans = i .spans; nspans = i .nspans; previous = set (i .previous) (i .nprevious) v; nprevious = i .nprevious + 1 })
-  by-block folded k v q e h = rw e (block-pushed folded k q h)
+      (record { kinds = set (i .kinds) at v; nkinds = n; spans = i .spans; nspans = i .nspans; previous = i .previous; nprevious = m })
+  by-block-if folded true at k v n m eg ea ek ev en em =
+      rw (ea, ← eg, ev, en, em) (rw previous-above at (block-pushed folded k ek (ltb-true _ _ (sym eg))))
+  by-block-if folded false at k v n m eg ea ek ev en em =
+      rw (ev, en, em, set-getD (i .kinds) at 0) (by-block-full folded (ltb-false _ _ (sym eg)))
 
   -- ---- a top-level entry less
 
@@ -286,10 +339,33 @@ module _ (i : Code) (c : Clean i) where
         };
       }
 
-  pub by-top-pops : (b : Bool) (k s p : ℕ) (v : Previous) → b ≡ endsTop (typesOf i) → b ≡ true → k ≡ i .nkinds - 1 → s ≡ i .nspans - 1 → p ≡ i .nprevious - 1 → v ≡ noPrevious
+  -- a top-level entry's kind is 0, as it is above the count
+  top-kind : endsTop (typesOf i) ≡ true → set (i .kinds) (i .nkinds - 1) 0 ≡ i .kinds
+  unfolding typesOf endsTop
+  top-kind h = ap (set (i .kinds) (i .nkinds - 1)) (sym (zero-kind h)) ∙ set-getD (i .kinds) (i .nkinds - 1) 0
+    where
+      zero-kind : endsTop (typesOf i) ≡ true → getD (i .kinds) (i .nkinds - 1) 0 ≡ 0
+      zero-kind e =
+          ⊎-elim
+          (λ (z : i .nkinds ≡ 0). false-true (rw z at e))
+          (λ (z : i .nkinds ≡ 0 → ⊥). eqb-true (getD (i .kinds) (i .nkinds - 1) 0) 0 (ends-kind (getD (i .kinds) (i .nkinds - 1) 0) (map typeOf (stack 0 (i .nkinds - 1) (i .kinds))) ∙ (rw (stack-pop 0 (i .nkinds) (i .kinds) z) at e)))
+          (same-or (i .nkinds) 0)
+
+  -- the arrays after a top-level entry
+  pub by-popped : endsTop (typesOf i) ≡ true
       → Stands (decreaseTopLevel (indentationOf i))
-      (record { kinds = set (i .kinds) k 0; nkinds = k; spans = set (i .spans) s 0; nspans = s; previous = set (i .previous) p v; nprevious = p })
-  by-top-pops b k s p v e h ek es ep ev = rw (ek, es, ep, ev) (top-popped (sym e ∙ h))
+      (record { kinds = i .kinds; nkinds = i .nkinds - 1; spans = set (i .spans) (i .nspans - 1) 0; nspans = i .nspans - 1; previous = set (i .previous) (i .nprevious - 1) noPrevious; nprevious = i .nprevious - 1 })
+  by-popped h = rw (top-kind h) at (top-popped h)
+
+  pub by-top-pops-if : (b e g : Bool) (s v n p m k : ℕ) (u w : Previous) → e ≡ endsTop (typesOf i) → g ≡ (b && e) → s ≡ i .nspans - 1 → v ≡ (if g then 0 else getD (i .spans) s 0) → n ≡ (if g then i .nspans - 1 else i .nspans) → p ≡ i .nprevious - 1 → u ≡ noPrevious → w ≡ (if g then u else getD (i .previous) p noPrevious) → m ≡ (if g then i .nprevious - 1 else i .nprevious) → k ≡ (if g then i .nkinds - 1 else i .nkinds)
+      → Stands (when b decreaseTopLevel (indentationOf i))
+      (record { kinds = i .kinds; nkinds = k; spans = set (i .spans) s v; nspans = n; previous = set (i .previous) p w; nprevious = m })
+  unfolding when
+  by-top-pops-if b e true s v n p m k u w ee eg es ev en ep eu ew em ek =
+      rw (left-of b _ (sym eg), es, ev, en, ep, ew, eu, em, ek) (by-popped (sym ee ∙ right-of b _ (sym eg)))
+  by-top-pops-if b e false s v n p m k u w ee eg es ev en ep eu ew em ek =
+      let f = unless-both b e decreaseTopLevel (indentationOf i) (sym eg) (λ q. sym (by-no-top e ee q .is)) in
+      rw (f, ev, en, ew, em, ek, set-getD (i .spans) s 0, set-getD (i .previous) p noPrevious) stays
 
   pub top-shortens : (r : Code) → endsTop (typesOf i) ≡ true → Stands (decreaseTopLevel (indentationOf i)) r → r .nkinds < i .nkinds
   unfolding decreaseTopLevel indentationOf
@@ -336,13 +412,21 @@ module _ (i : Code) (c : Clean i) where
         };
       }
 
-  pub by-block-pops : (p : ℕ) (v : Previous) → (i .nkinds ≡ 0 → ⊥) → endsTop (typesOf i) ≡ false → p ≡ i .nprevious - 1 → v ≡ noPrevious
+  pub by-closes : (g : Bool) (k q : ℕ) (u : Previous) → g ≡ ltb 0 (i .nkinds) → endsTop (typesOf i) ≡ false → k ≡ i .nkinds - 1 → q ≡ (if g then i .nprevious - 1 else i .nprevious) → u ≡ noPrevious
       → StandsClosed (decreaseBlockLevel (indentationOf i))
       (record {
-        folded = eqb (getD (i .kinds) (i .nkinds - 1) 0) 2;
-        left = record { kinds = set (i .kinds) (i .nkinds - 1) 0; nkinds = i .nkinds - 1; spans = i .spans; nspans = i .nspans; previous = set (i .previous) p v; nprevious = p };
+        folded = eqb (getD (i .kinds) k 0) 2;
+        left = record { kinds = set (i .kinds) k 0; nkinds = k; spans = i .spans; nspans = i .nspans; previous = set (i .previous) q u; nprevious = q };
       })
-  by-block-pops p v z h e f = rw (e, f) (block-popped z h)
+  by-closes true k q u eg h ek eq eu =
+      let l : 0 < i .nkinds = ltb-true 0 (i .nkinds) (sym eg) in
+      rw (ek, eq, eu) (block-popped (λ z. omega arith) h)
+  by-closes false k q u eg h ek eq eu =
+      let l : i .nkinds ≤ 0 = ltb-false 0 (i .nkinds) (sym eg) in
+      let z : i .nkinds ≡ 0 = omega arith in
+      let k0 : k ≡ i .nkinds = omega arith in
+      let a : getD (i .kinds) (i .nkinds) 0 ≡ 0 = c .kinds .above (i .nkinds) (omega arith) in
+      rw (k0, a, kinds-above, eq, eu, previous-above) (by-none-left z)
 
   -- ---- previous words: the first, and one in place of the last
 
@@ -398,51 +482,82 @@ module _ (i : Code) (c : Clean i) where
   unfolding indentationOf
   some-words z = rw (stack-pop noPrevious (i .nprevious) (i .previous) z)
 
-  pub by-first-reserved : (t : ℕ) (u v : Previous) → i .nprevious ≡ 0 → u ≡ noPrevious → v ≡ reservedAfter u t
+  by-first-reserved : (t : ℕ) (u v : Previous) → i .nprevious ≡ 0 → u ≡ noPrevious → v ≡ reservedAfter u t
       → Stands (setPreviousReserved t (indentationOf i))
       (record { kinds = i .kinds; nkinds = i .nkinds; spans = i .spans; nspans = i .nspans; previous = set (i .previous) 0 v; nprevious = 1 })
   unfolding setPreviousReserved markReserved previousOf topOf
   by-first-reserved t u v z e f =
       rw (f, e) (first-word (reservedAfter noPrevious t) _ z (λ q. refl) (rw (after-reserved, no-words z)))
 
-  pub by-first-top-level : (t : ℕ) (sp : SpanInfo) (v : Previous) → i .nprevious ≡ 0 → v ≡ topLevelAfter (t + 1) sp
+  by-first-top-level : (t : ℕ) (sp : SpanInfo) (v : Previous) → i .nprevious ≡ 0 → v ≡ topLevelAfter (t + 1) sp
       → Stands (setPreviousTopLevel t sp (indentationOf i))
       (record { kinds = i .kinds; nkinds = i .nkinds; spans = i .spans; nspans = i .nspans; previous = set (i .previous) 0 v; nprevious = 1 })
   unfolding setPreviousTopLevel markTopLevel wordOf
   by-first-top-level t sp v z e =
       rw e (first-word (topLevelAfter (t + 1) sp) _ z (λ q. false-true (sym q)) (rw (after-top-level, no-words z, add-one)))
 
-  pub by-next-reserved : (t : ℕ) (v : Previous) → (i .nprevious ≡ 0 → ⊥) → v ≡ reservedAfter (getD (i .previous) (i .nprevious - 1) noPrevious) t
+  by-next-reserved : (t : ℕ) (v : Previous) → (i .nprevious ≡ 0 → ⊥) → v ≡ reservedAfter (getD (i .previous) (i .nprevious - 1) noPrevious) t
       → Stands (setPreviousReserved t (indentationOf i))
       (record { kinds = i .kinds; nkinds = i .nkinds; spans = i .spans; nspans = i .nspans; previous = set (i .previous) (i .nprevious - 1) v; nprevious = i .nprevious })
   unfolding setPreviousReserved markReserved
   by-next-reserved t v z e =
       rw e (next-word (reservedAfter (getD (i .previous) (i .nprevious - 1) noPrevious) t) _ z (c .told (i .nprevious - 1)) (rw (after-reserved) (sym (rw (some-words z)))))
 
-  pub by-next-top-level : (t : ℕ) (sp : SpanInfo) (v : Previous) → (i .nprevious ≡ 0 → ⊥) → v ≡ topLevelAfter (getD (i .previous) (i .nprevious - 1) noPrevious .word) sp
+  by-next-top-level : (t : ℕ) (sp : SpanInfo) (v : Previous) → (i .nprevious ≡ 0 → ⊥) → v ≡ topLevelAfter (getD (i .previous) (i .nprevious - 1) noPrevious .word) sp
       → Stands (setPreviousTopLevel t sp (indentationOf i))
       (record { kinds = i .kinds; nkinds = i .nkinds; spans = i .spans; nspans = i .nspans; previous = set (i .previous) (i .nprevious - 1) v; nprevious = i .nprevious })
   unfolding setPreviousTopLevel markTopLevel previousOf
   by-next-top-level t sp v z e =
       rw e (next-word (topLevelAfter (getD (i .previous) (i .nprevious - 1) noPrevious .word) sp) _ z (λ q. false-true (sym q)) (rw (after-top-level) (sym (rw (some-words z)))))
 
+  nothing-above : (n : ℕ) → i .nprevious ≡ 0 → getD (i .previous) n noPrevious ≡ noPrevious
+  nothing-above n z = c .previous .above n (omega arith)
+
+  pub by-noted-reserved : (t at m : ℕ) (v : Previous) → at ≡ i .nprevious - 1 → v ≡ reservedAfter (getD (i .previous) at noPrevious) t → m ≡ at + 1
+      → Stands (setPreviousReserved t (indentationOf i))
+      (record { kinds = i .kinds; nkinds = i .nkinds; spans = i .spans; nspans = i .nspans; previous = set (i .previous) at v; nprevious = m })
+  by-noted-reserved t at m v ea ev em =
+      ⊎-elim
+      (λ (z : i .nprevious ≡ 0).
+      let a : at ≡ 0 = omega arith in
+      let b : m ≡ 1 = omega arith in
+      rw (a, b) (by-first-reserved t noPrevious v z refl (rw (nothing-above at z) at ev)))
+      (λ (z : i .nprevious ≡ 0 → ⊥).
+      let b : m ≡ i .nprevious = omega arith in
+      rw (b, ea) (by-next-reserved t v z (rw ea at ev)))
+      (same-or (i .nprevious) 0)
+
+  pub by-noted-top-level : (t at m w : ℕ) (sp : SpanInfo) (v : Previous) → at ≡ i .nprevious - 1 → w ≡ (if eqb (i .nprevious) 0 then t + 1 else getD (i .previous) at noPrevious .word) → v ≡ topLevelAfter w sp → m ≡ at + 1
+      → Stands (setPreviousTopLevel t sp (indentationOf i))
+      (record { kinds = i .kinds; nkinds = i .nkinds; spans = i .spans; nspans = i .nspans; previous = set (i .previous) at v; nprevious = m })
+  by-noted-top-level t at m w sp v ea ew ev em =
+      ⊎-elim
+      (λ (z : i .nprevious ≡ 0).
+      let a : at ≡ 0 = omega arith in
+      let b : m ≡ 1 = omega arith in
+      rw (a, b) (by-first-top-level t sp v z (rw (ew, z) at ev)))
+      (λ (z : i .nprevious ≡ 0 → ⊥).
+      let b : m ≡ i .nprevious = omega arith in
+      rw (b, ea) (by-next-top-level t sp v z (rw (ew, ne-eqb _ _ z, ea) at ev)))
+      (same-or (i .nprevious) 0)
+
   -- ---- what is read
 
-  pub by-ends-none : i .nkinds ≡ 0 → false ≡ endsTop (typesOf i)
-  unfolding typesOf endsTop
-  by-ends-none z = rw z
+  pub by-ends : (b : Bool) (k : ℕ) → k ≡ i .nkinds - 1 → b ≡ topIn (i .nkinds) (getD (i .kinds) k 0) → b ≡ endsTop (typesOf i)
+  unfolding typesOf topIn endsTop
+  by-ends b k ek eb = eb ∙ (rw ek (go (i .nkinds)))
+    where
+      go : (n : ℕ) → topIn n (getD (i .kinds) (n - 1) 0) ≡ endsTop (map typeOf (stack 0 n (i .kinds)))
+      go zero = refl
+      go (suc n) = let e : suc n - 1 ≡ n = omega arith in rw e (ends-kind (getD (i .kinds) n 0) (map typeOf (stack 0 n (i .kinds))))
 
-  pub by-ends : (i .nkinds ≡ 0 → ⊥) → eqb (getD (i .kinds) (i .nkinds - 1) 0) 0 ≡ endsTop (typesOf i)
-  unfolding typesOf
-  by-ends z = rw (stack-pop 0 (i .nkinds) (i .kinds) z) (ends-kind (getD (i .kinds) (i .nkinds - 1) 0) _)
-
-  pub by-last-none : (v : Previous) → i .nprevious ≡ 0 → v ≡ noPrevious → v ≡ lastOf i
+  pub by-last : (at : ℕ) → at ≡ i .nprevious - 1 → getD (i .previous) at noPrevious ≡ lastOf i
   unfolding lastOf
-  by-last-none v z e = rw (e, z)
-
-  pub by-last : (i .nprevious ≡ 0 → ⊥) → getD (i .previous) (i .nprevious - 1) noPrevious ≡ lastOf i
-  unfolding lastOf
-  by-last z = rw (stack-pop noPrevious (i .nprevious) (i .previous) z)
+  by-last at ea =
+      ⊎-elim
+      (λ (z : i .nprevious ≡ 0). nothing-above at z ∙ (rw z))
+      (λ (z : i .nprevious ≡ 0 → ⊥). rw (ea, stack-pop noPrevious (i .nprevious) (i .previous) z))
+      (same-or (i .nprevious) 0)
 
   pub by-span-none : i .nspans ≡ 0 → 0 ≡ span (indentationOf i)
   unfolding indentationOf span
@@ -456,28 +571,19 @@ module _ (i : Code) (c : Clean i) where
   unfolding indentationOf full
   by-full = rw (types-length i)
 
-  pub by-top-level : topOf (lastOf i .«top_level») (lastOf i .span) ≡ previousTopLevelReserved (indentationOf i)
+  by-top-level : topOf (lastOf i .«top_level») (lastOf i .span) ≡ previousTopLevelReserved (indentationOf i)
   unfolding lastOf previousTopLevelReserved indentationOf
   by-top-level = sym (last-top-level (stack noPrevious (i .nprevious) (i .previous)))
 
-  pub by-reserved : wordOf (lastOf i .word) ≡ previousReserved (indentationOf i)
+  pub by-top-level-in : (p : Previous) (v : Option SpanInfo) → p ≡ lastOf i → v ≡ topOf (p .«top_level») (p .span) → v ≡ previousTopLevelReserved (indentationOf i)
+  by-top-level-in p v e h = h ∙ (rw (← e) at by-top-level)
+
+  reserved-told : wordOf (lastOf i .word) ≡ previousReserved (indentationOf i)
   unfolding lastOf previousReserved indentationOf
-  by-reserved = sym (last-reserved (stack noPrevious (i .nprevious) (i .previous)))
+  reserved-told = sym (last-reserved (stack noPrevious (i .nprevious) (i .previous)))
 
-  pub by-span-told : (p : Previous) → p ≡ lastOf i → p .«top_level» ≡ true → some (p .span) ≡ previousTopLevelReserved (indentationOf i)
-  unfolding topOf
-  by-span-told p e h = rw (← e, h) at by-top-level
-
-  pub by-no-span : (p : Previous) → p ≡ lastOf i → p .«top_level» ≡ false → none ≡ previousTopLevelReserved (indentationOf i)
-  unfolding topOf
-  by-no-span p e h = rw (← e, h) at by-top-level
-
-  pub by-word : (p : Previous) → p ≡ lastOf i → (p .word ≡ 0 → ⊥) → some (p .word - 1) ≡ previousReserved (indentationOf i)
-  by-word p e z = word-told (p .word) z ∙ (rw (← e) at by-reserved)
-
-  pub by-no-word : (p : Previous) → p ≡ lastOf i → p .word ≡ 0 → none ≡ previousReserved (indentationOf i)
-  unfolding wordOf
-  by-no-word p e z = rw (← e, z) at by-reserved
+  pub by-reserved-in : (p : Previous) (v : Option ℕ) → p ≡ lastOf i → v ≡ wordOf (p .word) → v ≡ previousReserved (indentationOf i)
+  by-reserved-in p v e h = h ∙ (rw (← e) at reserved-told)
 
   pub by-level : (n : ℕ) (folded : Bool) → folded ≡ false → n ≡ unfolded (typesOf i) → n ≡ indentLevel folded (indentationOf i)
   unfolding indentLevel indentationOf
@@ -487,18 +593,45 @@ module _ (i : Code) (c : Clean i) where
   unfolding indentLevel indentationOf
   by-level-folded n m folded h e f = rw (f, ← e, h)
 
--- ---- a turn of the loop that pops a block
+-- ---- the loop that pops a block
 
-module _ (i r : Code) (c : Clean i) (b : Bool) (e : b ≡ endsTop (typesOf i)) where
-  pub by-shorter : b ≡ true → Stands (decreaseTopLevel (indentationOf i)) r → r .nkinds < i .nkinds
-  by-shorter h s = top-shortens i c r (sym e ∙ h) s
+-- what is left to close of d, top-level entries being gone
+pub record Left (d : Indentation ℕ) (i : Code) : Type 0 where
+  pub clean : Clean i
+  pub same : decreaseBlockLevel (indentationOf i) ≡ decreaseBlockLevel d
 
-  pub by-turn : (w : Closed ℕ) → b ≡ true → Stands (decreaseTopLevel (indentationOf i)) r → decreaseBlockLevel (indentationOf i) ≡ w → decreaseBlockLevel (indentationOf r) ≡ w
+pub left-starts : (i : Code) → Clean i → Left (indentationOf i) i
+left-starts i c = record { clean = c; same = refl }
+
+pub left-place : (d : Indentation ℕ) (i : Code) → Left d i → (g : Bool) (q : ℕ) → g ≡ ltb 0 (i .nkinds) → q ≡ (if g then i .nprevious - 1 else i .nprevious) → q < 129
+left-place d i l true q eg eq = let w = l .clean .previous .within in rw eq (omega arith)
+left-place d i l false q eg eq =
+    let f = l .clean .fewer in
+    let z : i .nkinds ≤ 0 = ltb-false 0 (i .nkinds) (sym eg) in
+    rw eq (omega arith)
+
+module _ (d : Indentation ℕ) (i : Code) (l : Left d i) (b : Bool) (k : ℕ) (ek : k ≡ i .nkinds - 1) (eb : b ≡ topIn (i .nkinds) (getD (i .kinds) k 0)) where
+  ends : b ≡ endsTop (typesOf i)
+  ends = by-ends i (l .clean) b k ek eb
+
+  pub left-shorter : b ≡ true → i .nkinds - 1 < i .nkinds
+  left-shorter h = top-shortens i (l .clean) _ (sym ends ∙ h) (by-popped i (l .clean) (sym ends ∙ h))
+
+  pub left-goes : (n s p : ℕ) (u : Previous) → b ≡ true → n ≡ i .nkinds - 1 → s ≡ i .nspans - 1 → p ≡ i .nprevious - 1 → u ≡ noPrevious
+      → Left d (record { kinds = i .kinds; nkinds = n; spans = set (i .spans) s 0; nspans = s; previous = set (i .previous) p u; nprevious = p })
   unfolding indentationOf
-  by-turn w h s f = ap decreaseBlockLevel (s .is) ∙ top-skips (indentationOf i) (sym e ∙ h) ∙ f
+  left-goes n s p u h en es ep eu =
+      let t = by-popped i (l .clean) (sym ends ∙ h) in
+      rw (en, es, ep, eu)
+      (record { clean = t .clean; same = ap decreaseBlockLevel (t .is) ∙ top-skips (indentationOf i) (sym ends ∙ h) ∙ l .same })
 
-pub by-closed : (r : CodeClosed) (w v : Closed ℕ) → StandsClosed w r → w ≡ v → StandsClosed v r
-by-closed r w v s e = rw (← e) s
+  pub left-closes : (g : Bool) (m q : ℕ) (u : Previous) → b ≡ false → g ≡ ltb 0 (i .nkinds) → m ≡ i .nkinds - 1 → q ≡ (if g then i .nprevious - 1 else i .nprevious) → u ≡ noPrevious
+      → StandsClosed (decreaseBlockLevel d)
+      (record {
+        folded = eqb (getD (i .kinds) m 0) 2;
+        left = record { kinds = set (i .kinds) m 0; nkinds = m; spans = i .spans; nspans = i .nspans; previous = set (i .previous) q u; nprevious = q };
+      })
+  left-closes g m q u h eg em eq eu = rw (l .same) at (by-closes i (l .clean) g m q u eg (sym ends ∙ h) em eq eu)
 
 pub by-new : (v : Previous) → v ≡ noPrevious
     → Stands noIndentation (record { kinds = replicate 128 0; nkinds = 0; spans = replicate 128 0; nspans = 0; previous = replicate 129 v; nprevious = 0 })

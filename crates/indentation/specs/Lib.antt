@@ -1,3 +1,2 @@
-pub mod Stacks
 pub mod Of
 pub mod Unique

@@ -1,68 +1,79 @@
--- Where the stacks' entries stand in the lent memory, and what the counts and the memory stand for.
+-- What the code's stacks stand for: words are tokens' numbers.
 use mathlib.Core.Path.{_≡_}
-use mathlib.Core.Bool.{not}
+use mathlib.Core.Bool.{Bool, true, false}
 use mathlib.Core.Option.{Option, none, some}
-use mathlib.Core.List.{List}
-use Prim.Native.Nat.{ℕ, _+_, _*_, _≤_, _<_}
-use lib.ListN.{length, getD}
-use Rattle.rules.specs.declared.SpanInfo.{SpanInfo}
+use mathlib.Core.List.{List, [], _∷_, map}
+use Prim.Native.Nat.{ℕ, zero, suc, _+_, _≤_}
+use lib.Dec.{eqb}
+use lib.ListN.{getD}
 use Rattle.rules.specs.declared.IndentType.{IndentType}
-use Rattle.rules.specs.Indentation.{Indentation, Closed}
-use Rattle.stacks.specs.Table.{table}
-use Rattle.previous.specs.declared.Previous.{Previous}
-use Rattle.previous.specs.Of.{previousAt, Flags}
-use Rattle.indentation.specs.declared.Indentation.{Indentation as Counts}
+use Rattle.rules.specs.declared.IndentType.the-variants.{Top, Block, FoldedBlock}
+use Rattle.rules.specs.declared.SpanInfo.{SpanInfo}
+use Rattle.rules.specs.Indentation.{Indentation, PreviousTokens, Closed}
+use Rattle.stacks.specs.Stack.{stack, Kept}
+use Rattle.indentation.specs.declared.Previous.{Previous}
+use Rattle.indentation.specs.declared.Indentation.{Indentation as Code}
 use Rattle.indentation.specs.declared.Word.{Word}
 use Rattle.indentation.specs.declared.TopLevel.{TopLevel}
 use Rattle.indentation.specs.declared.Closed.{Closed as CodeClosed}
-use Rattle.indentation.specs.Stacks as stacks
 
-abbrev pub noCounts : Counts
-noCounts = record { nkinds = 0; nspans = 0; nprevious = 0 }
+unfoldable pub typeOf : ℕ → IndentType
+typeOf zero = Top
+typeOf (suc zero) = Block
+typeOf (suc (suc k)) = FoldedBlock
 
--- ---- the memory: kinds from 0, spans from 128, previous entries from 256, and what is not the stacks' from 1159
+unfoldable pub kindFor : Bool → ℕ
+kindFor true = 2
+kindFor false = 1
 
-unfoldable pub kindsIn : List ℕ → List ℕ
-kindsIn m = table 128 (λ k. getD m k 0)
+-- 0 of a folded block, and 1
+unfoldable pub weightOf : ℕ → ℕ
+weightOf zero = 1
+weightOf (suc zero) = 1
+weightOf (suc (suc k)) = 0
 
-unfoldable pub spansIn : List ℕ → List ℕ
-spansIn m = table 128 (λ k. getD m (128 + k) 0)
+-- the last of n kinds, k, is a top-level one
+unfoldable pub topIn : ℕ → ℕ → Bool
+topIn zero k = false
+topIn (suc n) k = eqb k 0
 
-unfoldable pub previousIn : List ℕ → List Previous
-previousIn m = table 129 (previousAt m)
+unfoldable pub wordOf : ℕ → Option ℕ
+wordOf zero = none
+wordOf (suc n) = some n
 
-abbrev pub stacksOf : Counts → List ℕ → stacks.Stacks
-stacksOf c m = record { kinds = kindsIn m; nkinds = c .nkinds; spans = spansIn m; nspans = c .nspans; previous = previousIn m; nprevious = c .nprevious }
+unfoldable pub topOf : Bool → SpanInfo → Option SpanInfo
+topOf true sp = some sp
+topOf false sp = none
 
-unfoldable pub indentationOf : Counts → List ℕ → Indentation ℕ
-indentationOf c m = stacks.indentationOf (stacksOf c m)
+unfoldable pub previousOf : Previous → PreviousTokens ℕ
+previousOf p = record { topLevelReserved = topOf (p .«top_level») (p .span); reserved = wordOf (p .word) }
 
-unfoldable pub typesOf : Counts → List ℕ → List IndentType
-typesOf c m = stacks.typesOf (stacksOf c m)
+abbrev pub noSpan : SpanInfo
+noSpan = record { «full_span» = 0; blocks = 0; «newline_before» = false; «newline_after» = false; arguments = 0 }
 
-unfoldable pub lastOf : Counts → List ℕ → Previous
-lastOf c m = stacks.lastOf (stacksOf c m)
+abbrev pub noPrevious : Previous
+noPrevious = record { span = noSpan; word = 0; «top_level» = false }
 
-pub record Sound (m : List ℕ) : Type 0 where
-  pub long : length m ≡ 1287
-  pub flags : (k : ℕ) → k < 129 → Flags m (256 + 7 * k)
+abbrev pub reservedAfter : Previous → ℕ → Previous
+reservedAfter p token = record { span = p .span; word = token + 1; «top_level» = p .«top_level» }
 
--- the invariant
-pub record Clean (c : Counts) (m : List ℕ) : Type 0 where
-  pub sound : Sound m
-  pub stacks : stacks.Clean (stacksOf c m)
+abbrev pub topLevelAfter : ℕ → SpanInfo → Previous
+topLevelAfter word sp = record { span = sp; word = word; «top_level» = true }
 
--- r and the memory q are the one pair for w, m being the memory before
-pub record Stands (w : Indentation ℕ) (m : List ℕ) (r : Counts) (q : List ℕ) : Type 0 where
-  pub is : indentationOf r q ≡ w
-  pub clean : Clean r q
-  pub above : (k : ℕ) → 1159 ≤ k → getD q k 0 ≡ getD m k 0
+unfoldable pub typesOf : Code → List IndentType
+typesOf i = map typeOf (stack 0 (i .nkinds) (i .kinds))
 
-pub record StandsClosed (w : Closed ℕ) (m : List ℕ) (r : CodeClosed) (q : List ℕ) : Type 0 where
-  pub folded : r .folded ≡ w .folded
-  pub left : Stands (w .left) m (r .left) q
+unfoldable pub indentationOf : Code → Indentation ℕ
+indentationOf i =
+    record {
+      indentTypes = typesOf i;
+      topLevelSpan = stack 0 (i .nspans) (i .spans);
+      previous = map previousOf (stack noPrevious (i .nprevious) (i .previous));
+    }
 
--- ---- what is read
+-- the last previous words, or none
+unfoldable pub lastOf : Code → Previous
+lastOf i = getD (stack noPrevious (i .nprevious) (i .previous)) 0 noPrevious
 
 unfoldable pub wordIn : Word → Option ℕ
 wordIn (Word.Token n) = some n
@@ -71,3 +82,39 @@ wordIn Word.Nothing = none
 unfoldable pub spanIn : TopLevel → Option SpanInfo
 spanIn (TopLevel.Span sp) = some sp
 spanIn TopLevel.Nothing = none
+
+-- the top-level entries
+unfoldable pub tops : List IndentType → ℕ
+tops [] = 0
+tops (Top ∷ ts) = suc (tops ts)
+tops (Block ∷ ts) = tops ts
+tops (FoldedBlock ∷ ts) = tops ts
+
+-- a span stands only where there is a top-level word
+abbrev pub Told : Previous → Type 0
+Told p = p .«top_level» ≡ false → p .span ≡ noSpan
+
+-- the invariant: each stack is kept, a span for each top-level entry, at most one previous word more than entries
+pub record Clean (i : Code) : Type 0 where
+  pub kinds : Kept 0 128 (i .nkinds) (i .kinds)
+  pub known : (k : ℕ) → getD (i .kinds) k 0 ≤ 2
+  pub spans : Kept 0 128 (i .nspans) (i .spans)
+  pub paired : i .nspans ≡ tops (typesOf i)
+  pub previous : Kept noPrevious 129 (i .nprevious) (i .previous)
+  pub told : (k : ℕ) → Told (getD (i .previous) k noPrevious)
+  pub fewer : i .nprevious ≤ i .nkinds + 1
+
+-- r is the one value for w
+pub record Stands (w : Indentation ℕ) (r : Code) : Type 0 where
+  pub is : indentationOf r ≡ w
+  pub clean : Clean r
+
+pub record StandsClosed (w : Closed ℕ) (r : CodeClosed) : Type 0 where
+  pub folded : r .folded ≡ w .folded
+  pub left : Stands (w .left) (r .left)
+
+unfoldable pub endsTop : List IndentType → Bool
+endsTop [] = false
+endsTop (Top ∷ ts) = true
+endsTop (Block ∷ ts) = false
+endsTop (FoldedBlock ∷ ts) = false

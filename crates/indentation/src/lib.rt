@@ -1,31 +1,40 @@
-// indentation.rs: the stacks of indent kinds, spans and previous words, in a lent memory.
+// indentation.rs: the stacks of indent kinds, spans and previous words, by value.
 ghost use mathlib.Core.Path.{_≡_};
-ghost use mathlib.Core.Bool.{false};
 ghost use Prim.Native.Nat.{_+_, _-_, _≤_, _<_};
-ghost use Rattle.rules.specs.Indentation.{noIndentation, indentLevel, increaseTopLevel, increaseBlockLevel, decreaseTopLevel, decreaseBlockLevel, setPreviousReserved, setPreviousTopLevel, previousReserved, previousTopLevelReserved, unfolded, span as spanOf};
-ghost use lib.Dec.{leb};
-ghost use Rattle.indentation.specs.Stacks.{endsTop, kindFor, weightOf};
-ghost use Rattle.indentation.specs.Of.{noCounts, indentationOf, typesOf, lastOf, wordIn, spanIn, Clean, Stands, StandsClosed};
-use previous::Previous;
-use previous::no_previous;
-use previous::previous_at;
-use previous::put_previous;
-use previous::reserved_after;
-use previous::top_level_after;
+ghost use lib.Dec.{eqb};
+ghost use Rattle.rules.specs.Indentation.{noIndentation, indentLevel, increaseTopLevel, increaseBlockLevel, decreaseTopLevel, decreaseBlockLevel, setPreviousReserved, setPreviousTopLevel, previousTopLevelReserved, unfolded, span as spanOf};
+ghost use Rattle.rules.specs.Base.{if_then_else_, when};
+ghost use Rattle.rules.specs.InlineBlock.{full};
+ghost use Rattle.indentation.specs.Of.{indentationOf, typesOf, noPrevious, endsTop, kindFor, weightOf, wordOf, topOf, reservedAfter, topLevelAfter, topIn, lastOf, wordIn, spanIn, Clean, Stands, StandsClosed};
 use rules::SpanInfo;
-use stacks::LENGTHS;
-use stacks::SPANS;
+use stacks::both;
+use stacks::chosen;
+use stacks::less;
+use stacks::less_if;
+use stacks::more_if;
+use stacks::within;
 
-// How many entries each stack has. The entries stand in a lent memory; those above the counts are zero. Kinds: 0 Top, 1 Block, 2 FoldedBlock.
+// The last top-level word's span, and the last reserved word: its token's number and one more, 0 where there is none.
+pub struct Previous {
+    pub span: SpanInfo,
+    pub word: u16,
+    pub top_level: bool,
+}
+
+// Kinds: 0 Top, 1 Block, 2 FoldedBlock. Entries above the counts are zero.
+// An operation takes out the arrays that it changes, each as a local of its own, and branches on numbers alone: so no other array is copied.
 pub struct Indentation {
+    pub kinds: [u8; 128],
     pub nkinds: usize,
+    pub spans: [u32; 128],
     pub nspans: usize,
+    pub previous: [Previous; 129],
     pub nprevious: usize,
 }
 
 // A token's number, where there is one.
 pub enum Word {
-    Token(u32),
+    Token(u16),
     Nothing,
 }
 
@@ -41,253 +50,324 @@ pub struct Closed {
     pub left: Indentation,
 }
 
-fn block_kind(folded: bool) -> u32
+fn no_previous() -> Previous
+    ensures { λ r. ⌜ r ≡ noPrevious ⌝ }
+{
+    let span = SpanInfo {
+        full_span: 0,
+        blocks: 0,
+        newline_before: false,
+        newline_after: false,
+        arguments: 0,
+    };
+    Previous {
+        span,
+        word: 0,
+        top_level: false,
+    }
+}
+
+// ---- numbers
+
+fn block_kind(folded: bool) -> u8
     ensures { λ r. ⌜ r ≡ kindFor folded ⌝ }
 {
     if folded { 2 } else { 1 }
 }
 
-// One less, and nought of nought.
-fn less(n: usize) -> usize
-    ensures { λ r. ⌜ r ≡ n - 1 ⌝ }
+// The last of n kinds is a top-level one.
+fn is_top(n: usize, kind: u8) -> bool
+    ensures { λ r. ⌜ r ≡ topIn n kind ⌝ }
 {
-    if n == 0 { 0 } else { n - 1 }
+    if n == 0 {
+        return false;
+    }
+    kind == 0
 }
 
 // What an entry adds to the indent.
-fn weight(kind: u32) -> usize
+fn weight(kind: u8) -> usize
     ensures { λ r. ⌜ (r ≡ weightOf kind) × (r ≤ 1) ⌝ }
 {
     if kind < 2 { 1 } else { 0 }
 }
 
-impl Indentation {
-    pub fn new() -> Self
-        ensures { λ r. ⌜ r ≡ noCounts ⌝ }
-    {
-        Self {
-            nkinds: 0,
-            nspans: 0,
-            nprevious: 0,
-        }
-    }
+// ---- entries: one where b holds, else the other
 
-    pub fn reset_indentation(self, stacks: &mut [u32]) -> Self
-        requires { ⌜ Clean self (now stacks) ⌝ }
-        ensures { λ r. ⌜ Stands noIndentation (now (stacks .entry)) r (now (stacks .exit)) ⌝ }
-    {
-        let mut i: usize = 0;
-        while i < LENGTHS {
-            stacks[i] = 0;
-            i += 1;
-        }
-        Self::new()
-    }
+fn chosen_kind(b: bool, x: u8, y: u8) -> u8
+    ensures { λ r. ⌜ r ≡ (if b then x else y) ⌝ }
+{
+    if b { x } else { y }
+}
 
-    pub fn increase_top_level(mut self, stacks: &mut [u32], span: SpanInfo) -> Self
-        requires { ⌜ Clean self (now stacks) ⌝ }
-        ensures { λ r. ⌜ Stands (increaseTopLevel span (indentationOf self (now (stacks .entry)))) (now (stacks .entry)) r (now (stacks .exit)) ⌝ }
-    {
-        let k = self.nkinds;
-        if 128 <= k {
-            return self;
-        }
-        let s = self.nspans;
-        stacks[k] = 0;
-        self.nkinds = k + 1;
-        stacks[SPANS + s] = span.full_span;
-        self.nspans = s + 1;
-        self
+fn chosen_previous(b: bool, x: Previous, y: Previous) -> Previous
+    ensures { λ r. ⌜ r ≡ (if b then x else y) ⌝ }
+{
+    if b {
+        return x;
     }
+    y
+}
 
-    pub fn increase_block_level(mut self, stacks: &mut [u32], folded: bool) -> Self
-        requires { ⌜ Clean self (now stacks) ⌝ }
-        ensures { λ r. ⌜ Stands (increaseBlockLevel folded (indentationOf self (now (stacks .entry)))) (now (stacks .entry)) r (now (stacks .exit)) ⌝ }
-    {
-        let k = self.nkinds;
-        if 128 <= k {
-            return self;
-        }
-        let p = self.nprevious;
-        stacks[k] = block_kind(folded);
-        self.nkinds = k + 1;
-        put_previous(stacks, p, no_previous());
-        self.nprevious = p + 1;
-        self
+// The first reserved word stays.
+fn first_word(n: usize, word: u16, token: u16) -> u16
+    requires { ⌜ token < 65535 ⌝ }
+    ensures { λ r. ⌜ r ≡ (if eqb n 0 then token + 1 else word) ⌝ }
+{
+    if n == 0 { token + 1 } else { word }
+}
+
+fn reserved_after(last: Previous, token: u16) -> Previous
+    requires { ⌜ token < 65535 ⌝ }
+    ensures { λ r. ⌜ r ≡ reservedAfter last token ⌝ }
+{
+    let span = last.span;
+    Previous {
+        span,
+        word: token + 1,
+        top_level: last.top_level,
     }
+}
 
-    // The top entry is a top-level one.
-    fn ends_top(self, stacks: &[u32]) -> bool
-        requires { ⌜ Clean self (now stacks) ⌝ }
-        ensures { λ r. ⌜ r ≡ endsTop (typesOf self (now (stacks .entry))) ⌝ }
-    {
-        let k = self.nkinds;
-        if k == 0 {
-            return false;
-        }
-        stacks[k - 1] == 0
+fn top_level_after(word: u16, span: SpanInfo) -> Previous
+    ensures { λ r. ⌜ r ≡ topLevelAfter word span ⌝ }
+{
+    Previous {
+        span,
+        word,
+        top_level: true,
     }
+}
 
-    // A previous word goes too, though `increase_top_level` pushes none.
-    pub fn decrease_top_level(mut self, stacks: &mut [u32]) -> Self
-        requires { ⌜ Clean self (now stacks) ⌝ }
-        ensures { λ r. ⌜ Stands (decreaseTopLevel (indentationOf self (now (stacks .entry)))) (now (stacks .entry)) r (now (stacks .exit)) ⌝ }
+impl Previous {
+    pub fn reserved(self) -> Word
+        ensures { λ r. ⌜ wordIn r ≡ wordOf (self .word) ⌝ }
     {
-        if self.ends_top(stacks) {
-            let k = less(self.nkinds);
-            let s = less(self.nspans);
-            let p = less(self.nprevious);
-            stacks[k] = 0;
-            self.nkinds = k;
-            stacks[SPANS + s] = 0;
-            self.nspans = s;
-            put_previous(stacks, p, no_previous());
-            self.nprevious = p;
-            return self;
-        }
-        self
-    }
-
-    // The top entry, which is no top-level one, goes with a previous word.
-    fn pop_block(mut self, stacks: &mut [u32]) -> Closed
-        requires { ⌜ Clean self (now stacks) ⌝ }
-        requires { ⌜ endsTop (typesOf self (now stacks)) ≡ false ⌝ }
-        ensures { λ r. ⌜ StandsClosed (decreaseBlockLevel (indentationOf self (now (stacks .entry)))) (now (stacks .entry)) r (now (stacks .exit)) ⌝ }
-    {
-        let n = self.nkinds;
-        if n == 0 {
-            return Closed {
-                folded: false,
-                left: self,
-            };
-        }
-        let k = n - 1;
-        let p = less(self.nprevious);
-        let kind = stacks[k];
-        stacks[k] = 0;
-        self.nkinds = k;
-        put_previous(stacks, p, no_previous());
-        self.nprevious = p;
-        Closed {
-            folded: kind == 2,
-            left: self,
-        }
-    }
-
-    pub fn decrease_block_level(self, stacks: &mut [u32]) -> Closed
-        requires { ⌜ Clean self (now stacks) ⌝ }
-        ensures { λ r. ⌜ StandsClosed (decreaseBlockLevel (indentationOf self (now (stacks .entry)))) (now (stacks .entry)) r (now (stacks .exit)) ⌝ }
-    {
-        let mut left = self;
-        while left.ends_top(stacks) {
-            left = left.decrease_top_level(stacks);
-        }
-        left.pop_block(stacks)
-    }
-
-    pub fn set_previous_reserved(mut self, stacks: &mut [u32], token: u32) -> Self
-        requires { ⌜ Clean self (now stacks) ⌝ }
-        requires { ⌜ token < 65535 ⌝ }
-        ensures { λ r. ⌜ Stands (setPreviousReserved token (indentationOf self (now (stacks .entry)))) (now (stacks .entry)) r (now (stacks .exit)) ⌝ }
-    {
-        let n = self.nprevious;
-        if n == 0 {
-            put_previous(stacks, 0, reserved_after(no_previous(), token));
-            self.nprevious = 1;
-            return self;
-        }
-        let last = previous_at(stacks, n - 1);
-        put_previous(stacks, n - 1, reserved_after(last, token));
-        self
-    }
-
-    pub fn set_previous_top_level(mut self, stacks: &mut [u32], token: u32, span: SpanInfo) -> Self
-        requires { ⌜ Clean self (now stacks) ⌝ }
-        requires { ⌜ token < 65535 ⌝ }
-        ensures { λ r. ⌜ Stands (setPreviousTopLevel token span (indentationOf self (now (stacks .entry)))) (now (stacks .entry)) r (now (stacks .exit)) ⌝ }
-    {
-        let n = self.nprevious;
-        if n == 0 {
-            put_previous(stacks, 0, top_level_after(token + 1, span));
-            self.nprevious = 1;
-            return self;
-        }
-        let last = previous_at(stacks, n - 1);
-        put_previous(stacks, n - 1, top_level_after(last.word, span));
-        self
-    }
-
-    fn last_previous(self, stacks: &[u32]) -> Previous
-        requires { ⌜ Clean self (now stacks) ⌝ }
-        ensures { λ r. ⌜ r ≡ lastOf self (now (stacks .entry)) ⌝ }
-    {
-        let n = self.nprevious;
-        if n == 0 {
-            return no_previous();
-        }
-        previous_at(stacks, n - 1)
-    }
-
-    pub fn previous_reserved(self, stacks: &[u32]) -> Word
-        requires { ⌜ Clean self (now stacks) ⌝ }
-        ensures { λ r. ⌜ wordIn r ≡ previousReserved (indentationOf self (now (stacks .entry))) ⌝ }
-    {
-        let last = self.last_previous(stacks);
-        let w = last.word;
+        let w = self.word;
         if w == 0 {
             return Word::Nothing;
         }
         Word::Token(w - 1)
     }
 
-    pub fn previous_top_level_reserved(self, stacks: &[u32]) -> TopLevel
-        requires { ⌜ Clean self (now stacks) ⌝ }
-        ensures { λ r. ⌜ spanIn r ≡ previousTopLevelReserved (indentationOf self (now (stacks .entry))) ⌝ }
+    pub fn top_level_reserved(self) -> TopLevel
+        ensures { λ r. ⌜ spanIn r ≡ topOf (self .«top_level») (self .span) ⌝ }
     {
-        let last = self.last_previous(stacks);
-        if last.top_level {
-            let span = last.span;
+        if self.top_level {
+            let span = self.span;
             return TopLevel::Span(span);
         }
         TopLevel::Nothing
     }
+}
 
-    pub fn span(self, stacks: &[u32]) -> u32
-        requires { ⌜ Clean self (now stacks) ⌝ }
-        ensures { λ r. ⌜ r ≡ spanOf (indentationOf self (now (stacks .entry))) ⌝ }
+impl Indentation {
+    pub fn new() -> Self
+        ensures { λ r. ⌜ Stands noIndentation r ⌝ }
+    {
+        let none = no_previous();
+        Self {
+            kinds: [0; 128],
+            nkinds: 0,
+            spans: [0; 128],
+            nspans: 0,
+            previous: [none; 129],
+            nprevious: 0,
+        }
+    }
+
+    pub fn reset_indentation(self) -> Self
+        ensures { λ r. ⌜ Stands noIndentation r ⌝ }
+    {
+        Self::new()
+    }
+
+    // Where b holds. A full stack stays. The entry's kind, 0, stands above the count.
+    pub fn increase_top_level_if(mut self, b: bool, span: SpanInfo) -> Self
+        requires { ⌜ Clean self ⌝ }
+        ensures { λ r. ⌜ Stands (when b (increaseTopLevel span) (indentationOf self)) r ⌝ }
+    {
+        let grows = both(b, self.nkinds < 128);
+        let at = within(self.nspans);
+        let mut spans = self.spans;
+        let old = spans[at];
+        spans[at] = chosen(grows, span.full_span, old);
+        self.spans = spans;
+        self.nspans = more_if(grows, self.nspans);
+        self.nkinds = more_if(grows, self.nkinds);
+        self
+    }
+
+    // A full stack stays. The block's previous words, none, stand above the count.
+    pub fn increase_block_level(mut self, folded: bool) -> Self
+        requires { ⌜ Clean self ⌝ }
+        ensures { λ r. ⌜ Stands (increaseBlockLevel folded (indentationOf self)) r ⌝ }
+    {
+        let grows = self.nkinds < 128;
+        let at = within(self.nkinds);
+        let mut kinds = self.kinds;
+        let old = kinds[at];
+        kinds[at] = chosen_kind(grows, block_kind(folded), old);
+        self.kinds = kinds;
+        self.nkinds = more_if(grows, self.nkinds);
+        self.nprevious = more_if(grows, self.nprevious);
+        self
+    }
+
+    // The top entry is a top-level one.
+    fn ends_top(self) -> bool
+        requires { ⌜ Clean self ⌝ }
+        ensures { λ r. ⌜ r ≡ endsTop (typesOf self) ⌝ }
+    {
+        let n = self.nkinds;
+        let kinds = self.kinds;
+        is_top(n, kinds[less(n)])
+    }
+
+    // Where b holds. A previous word goes too, though `increase_top_level` pushes none.
+    pub fn decrease_top_level_if(mut self, b: bool) -> Self
+        requires { ⌜ Clean self ⌝ }
+        ensures { λ r. ⌜ Stands (when b decreaseTopLevel (indentationOf self)) r ⌝ }
+    {
+        let ends = both(b, self.ends_top());
+        let s = less(self.nspans);
+        let mut spans = self.spans;
+        let old = spans[s];
+        spans[s] = chosen(ends, 0, old);
+        self.spans = spans;
+        self.nspans = less_if(ends, self.nspans);
+        let p = less(self.nprevious);
+        let mut previous = self.previous;
+        let last = previous[p];
+        previous[p] = chosen_previous(ends, no_previous(), last);
+        self.previous = previous;
+        self.nprevious = less_if(ends, self.nprevious);
+        self.nkinds = less_if(ends, self.nkinds);
+        self
+    }
+
+    // Top-level entries go, each as `decrease_top_level` has it go, and then the block with a previous word.
+    pub fn decrease_block_level(mut self) -> Closed
+        requires { ⌜ Clean self ⌝ }
+        ensures { λ r. ⌜ StandsClosed (decreaseBlockLevel (indentationOf self)) r ⌝ }
+    {
+        let mut kinds = self.kinds;
+        let mut spans = self.spans;
+        let mut previous = self.previous;
+        let mut n = self.nkinds;
+        let mut s = self.nspans;
+        let mut p = self.nprevious;
+        while is_top(n, kinds[less(n)]) {
+            n = less(n);
+            s = less(s);
+            p = less(p);
+            spans[s] = 0;
+            previous[p] = no_previous();
+        }
+        let some = 0 < n;
+        let k = less(n);
+        let kind = kinds[k];
+        let to = less_if(some, p);
+        kinds[k] = 0;
+        previous[to] = no_previous();
+        self.kinds = kinds;
+        self.nkinds = k;
+        self.spans = spans;
+        self.nspans = s;
+        self.previous = previous;
+        self.nprevious = to;
+        Closed {
+            folded: kind == 2,
+            left: self,
+        }
+    }
+
+    pub fn set_previous_reserved(mut self, token: u16) -> Self
+        requires { ⌜ Clean self ⌝ }
+        requires { ⌜ token < 65535 ⌝ }
+        ensures { λ r. ⌜ Stands (setPreviousReserved token (indentationOf self)) r ⌝ }
+    {
+        let at = less(self.nprevious);
+        let mut previous = self.previous;
+        let last = previous[at];
+        previous[at] = reserved_after(last, token);
+        self.previous = previous;
+        self.nprevious = at + 1;
+        self
+    }
+
+    pub fn set_previous_top_level(mut self, token: u16, span: SpanInfo) -> Self
+        requires { ⌜ Clean self ⌝ }
+        requires { ⌜ token < 65535 ⌝ }
+        ensures { λ r. ⌜ Stands (setPreviousTopLevel token span (indentationOf self)) r ⌝ }
+    {
+        let at = less(self.nprevious);
+        let mut previous = self.previous;
+        let last = previous[at];
+        let word = first_word(self.nprevious, last.word, token);
+        previous[at] = top_level_after(word, span);
+        self.previous = previous;
+        self.nprevious = at + 1;
+        self
+    }
+
+    // The last previous words: those above none are none.
+    pub fn previous_words(self) -> Previous
+        requires { ⌜ Clean self ⌝ }
+        ensures { λ r. ⌜ r ≡ lastOf self ⌝ }
+    {
+        let at = less(self.nprevious);
+        let previous = self.previous;
+        previous[at]
+    }
+
+    pub fn previous_top_level_reserved(self) -> TopLevel
+        requires { ⌜ Clean self ⌝ }
+        ensures { λ r. ⌜ spanIn r ≡ previousTopLevelReserved (indentationOf self) ⌝ }
+    {
+        let last = self.previous_words();
+        last.top_level_reserved()
+    }
+
+    pub fn span(self) -> u32
+        requires { ⌜ Clean self ⌝ }
+        ensures { λ r. ⌜ r ≡ spanOf (indentationOf self) ⌝ }
     {
         let n = self.nspans;
         if n == 0 {
             return 0;
         }
-        stacks[SPANS + n - 1]
+        let spans = self.spans;
+        spans[n - 1]
     }
 
     pub fn is_full(self) -> bool
-        ensures { λ r. ⌜ r ≡ leb 128 (self .nkinds) ⌝ }
+        requires { ⌜ Clean self ⌝ }
+        ensures { λ r. ⌜ r ≡ full (indentationOf self .indentTypes) ⌝ }
     {
         128 <= self.nkinds
     }
 
-    fn unfolded_count(self, stacks: &[u32]) -> usize
-        requires { ⌜ Clean self (now stacks) ⌝ }
-        ensures { λ r. ⌜ (r ≡ unfolded (typesOf self (now (stacks .entry)))) × (r ≤ 128) ⌝ }
+    fn unfolded_count(self) -> usize
+        requires { ⌜ Clean self ⌝ }
+        ensures { λ r. ⌜ (r ≡ unfolded (typesOf self)) × (r ≤ 128) ⌝ }
     {
         let n = self.nkinds;
+        let kinds = self.kinds;
         let mut i: usize = 0;
         let mut count: usize = 0;
         while i < n {
-            count += weight(stacks[i]);
+            count += weight(kinds[i]);
             i += 1;
         }
         count
     }
 
-    pub fn indent_level(self, stacks: &[u32], folded: bool) -> usize
-        requires { ⌜ Clean self (now stacks) ⌝ }
-        ensures { λ r. ⌜ (r ≡ indentLevel folded (indentationOf self (now (stacks .entry)))) × (r ≤ 128) ⌝ }
+    pub fn indent_level(self, folded: bool) -> usize
+        requires { ⌜ Clean self ⌝ }
+        ensures { λ r. ⌜ (r ≡ indentLevel folded (indentationOf self)) × (r ≤ 128) ⌝ }
     {
-        let n = self.unfolded_count(stacks);
+        let n = self.unfolded_count();
         if folded {
             return less(n);
         }

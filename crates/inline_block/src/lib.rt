@@ -1,72 +1,79 @@
-// inline_block.rs: the open inline blocks. What a block holds is read ahead, in another crate.
+// inline_block.rs: the open inline blocks by value. What a block holds is read ahead, in another crate.
 ghost use mathlib.Core.Path.{_≡_};
-ghost use mathlib.Core.List.{tail};
-ghost use lib.Dec.{leb, ltb};
-ghost use Rattle.rules.specs.InlineBlock.{curLen, beginIfPossible};
-ghost use Rattle.inline_block.specs.Of.{inlineBlockOf, noBlocks, Clean, Stands};
-use stacks::LENGTHS;
+ghost use mathlib.Core.List.{[], tail};
+ghost use Rattle.rules.specs.InlineBlock.{isActive, curLen, full, beginIfPossible};
+ghost use Rattle.inline_block.specs.Of.{inlineBlockOf, Clean, Stands};
+use stacks::both;
+use stacks::chosen;
+use stacks::less;
+use stacks::more_if;
+use stacks::within;
 
-// How many inline blocks are open. Their lengths stand in a lent memory, the innermost last; those above the level are zero.
+// The lengths of the open inline blocks, the innermost last; entries above the level are zero.
 pub struct InlineBlock {
+    pub lengths: [u32; 128],
     pub level: usize,
 }
 
 impl InlineBlock {
     pub fn new() -> Self
-        ensures { λ r. ⌜ r ≡ noBlocks ⌝ }
+        ensures { λ r. ⌜ Stands [] r ⌝ }
     {
-        Self { level: 0 }
+        Self {
+            lengths: [0; 128],
+            level: 0,
+        }
     }
 
     // A full stack stays: refusal 7 is given before.
-    pub fn begin_if_possible(mut self, stacks: &mut [u32], inlined: bool, length: u32) -> Self
-        requires { ⌜ Clean self (now stacks) ⌝ }
-        ensures { λ r. ⌜ Stands (beginIfPossible inlined length (inlineBlockOf self (now (stacks .entry)))) (now (stacks .entry)) r (now (stacks .exit)) ⌝ }
+    pub fn begin_if_possible(mut self, inlined: bool, length: u32) -> Self
+        requires { ⌜ Clean self ⌝ }
+        ensures { λ r. ⌜ Stands (beginIfPossible inlined length (inlineBlockOf self)) r ⌝ }
     {
         let n = self.level;
-        if inlined {
-            if n < 128 {
-                stacks[LENGTHS + n] = length;
-                self.level = n + 1;
-                return self;
-            }
-        }
+        let grows = both(inlined, n < 128);
+        let at = within(n);
+        let mut lengths = self.lengths;
+        let old = lengths[at];
+        lengths[at] = chosen(grows, length, old);
+        self.lengths = lengths;
+        self.level = more_if(grows, n);
         self
     }
 
-    pub fn end(mut self, stacks: &mut [u32]) -> Self
-        requires { ⌜ Clean self (now stacks) ⌝ }
-        ensures { λ r. ⌜ Stands (tail (inlineBlockOf self (now (stacks .entry)))) (now (stacks .entry)) r (now (stacks .exit)) ⌝ }
+    pub fn end(mut self) -> Self
+        requires { ⌜ Clean self ⌝ }
+        ensures { λ r. ⌜ Stands (tail (inlineBlockOf self)) r ⌝ }
     {
-        let n = self.level;
-        if n == 0 {
-            return self;
-        }
-        stacks[LENGTHS + n - 1] = 0;
-        self.level = n - 1;
+        let at = less(self.level);
+        let mut lengths = self.lengths;
+        lengths[at] = 0;
+        self.lengths = lengths;
+        self.level = at;
         self
     }
 
     pub fn is_active(self) -> bool
-        ensures { λ r. ⌜ r ≡ ltb 0 (self .level) ⌝ }
+        ensures { λ r. ⌜ r ≡ isActive (inlineBlockOf self) ⌝ }
     {
         0 < self.level
     }
 
     pub fn is_full(self) -> bool
-        ensures { λ r. ⌜ r ≡ leb 128 (self .level) ⌝ }
+        ensures { λ r. ⌜ r ≡ full (inlineBlockOf self) ⌝ }
     {
         128 <= self.level
     }
 
-    pub fn cur_len(self, stacks: &[u32]) -> u32
-        requires { ⌜ Clean self (now stacks) ⌝ }
-        ensures { λ r. ⌜ r ≡ curLen (inlineBlockOf self (now (stacks .entry))) ⌝ }
+    pub fn cur_len(self) -> u32
+        requires { ⌜ Clean self ⌝ }
+        ensures { λ r. ⌜ r ≡ curLen (inlineBlockOf self) ⌝ }
     {
         let n = self.level;
         if n == 0 {
             return 0;
         }
-        stacks[LENGTHS + n - 1]
+        let lengths = self.lengths;
+        lengths[n - 1]
     }
 }

@@ -5,30 +5,30 @@ use mathlib.Core.Option.{Option, none, some}
 use mathlib.Core.List.{List}
 use Prim.Native.Nat.{ℕ, _+_, _≤_, _<_}
 use native.Mathlib.Omega.{arith}
-use lib.Dec.{leb, ltb}
+use lib.Dec.{ltb}
 use lib.ListN.{length}
 use Rattle.rules.specs.declared.Case.{Case}
 use Rattle.rules.specs.declared.Limit.{Limit}
 use Rattle.rules.specs.declared.Limit.the-variants as limits
 use Rattle.rules.specs.declared.Place.{Place}
 use Rattle.rules.specs.declared.SpanInfo.{SpanInfo}
+use Rattle.rules.specs.Base.{when}
 use Rattle.rules.specs.Text.{Text, inCase, equalizeWhitespace}
 use Rattle.rules.specs.Words.{bodyAt, tokenAt}
 use Rattle.rules.specs.Sheet.{part, envOf}
 use Rattle.rules.specs.State.{State}
 use Rattle.rules.specs.Indentation.{Indentation, indentLevel, increaseTopLevel, setPreviousReserved, previousTopLevelReserved, span}
-use Rattle.rules.specs.InlineBlock.{full}
+use Rattle.rules.specs.InlineBlock.{isActive, full}
 use Rattle.rules.specs.Formatter.{formatReservedWord, afterLineComment, overLimit, formatNewlineReservedWord, formatReserved}
 use Rattle.ascii.specs.Part.{part as bytes}
 use Rattle.text.specs.Held.{textOf, Laid}
 use Rattle.text.specs.declared.Text.{Text as CodeText}
 use Rattle.tokens.specs.Placed.{Inside}
-use Rattle.indentation.specs.Of.{spanIn, indentationOf, Clean, Stands}
+use Rattle.indentation.specs.Of.{noSpan, spanIn, indentationOf, Stands}
 use Rattle.indentation.specs.declared.TopLevel.{TopLevel}
 use Rattle.indentation.specs.declared.TopLevel.the-variants as top
-use Rattle.indentation.specs.declared.Indentation.{Indentation as Counts}
-use Rattle.indentation.proofs.StandLaws.{full-is, onward}
-use Rattle.inline_block.proofs.Laws.{active-is}
+use Rattle.indentation.specs.declared.Indentation.{Indentation as Stacks}
+use Rattle.inline_block.specs.Of.{inlineBlockOf}
 use Rattle.query.specs.Query
 use Rattle.query.specs.declared.Value.{Value}
 use Rattle.query.proofs.Halves as halves
@@ -40,19 +40,9 @@ use Rattle.state.specs.Below.{Below, below-up, top-below, reserved-below}
 use Rattle.state.specs.Of.{valueIn, wordOf, stateOf, withIndentation, Known, Ready, envIn, hereIn, Handled}
 use Rattle.state.proofs.Laws.{by-halves, value-is}
 use Rattle.reserved.specs.declared.Newline.{Newline}
-use Rattle.reserved.specs.Inlined.{indentLast, sixIn, indentedIn, Indented}
-use Rattle.rules.specs.Base.{when}
+use Rattle.reserved.specs.Inlined.{indentLast, inlinedLast, orNoSpan, sixIn, indentedIn, Indented}
 
 -- ---- where a test holds
-
-module _ (b : Bool) (f : Indentation ℕ → Indentation ℕ) (i : Counts) (m : List ℕ) where
-  pub stands-then : (r : Counts) (q : List ℕ) → b ≡ true → Stands (f (indentationOf i m)) m r q → Stands (when b f (indentationOf i m)) m r q
-  unfolding when
-  stands-then r q h s = rw h s
-
-  pub stands-else : b ≡ false → Clean i m → Stands (when b f (indentationOf i m)) m i m
-  unfolding when
-  stands-else h c = rw h (record { is = refl; clean = c; above = λ k a. refl })
 
 module _ (f : Indentation ℕ → Indentation ℕ) (i : Indentation ℕ) where
   pub when-below : (k : ℕ) (b : Bool) → Below k i → Below k (f i) → Below k (when b f i)
@@ -100,15 +90,30 @@ six-is none b = refl
 six-is (some sp) b = refl
 
 -- the last top-level word, as the code holds it
-module _ (b : Bool) (last : TopLevel) (i : Counts) (m : List ℕ) (h : b ≡ true) where
-  pub inlined-none : last ≡ top.Nothing → Clean i m → Stands (when b (indentLast (spanIn last)) (indentationOf i m)) m i m
-  unfolding when indentLast spanIn
-  inlined-none e c = rw (h, e) (record { is = refl; clean = c; above = λ k a. refl })
+inlined-is : {W : Type 0} (b : Bool) (o : Option SpanInfo) (i : Indentation W) → when (b && inlinedLast o) (increaseTopLevel (orNoSpan o)) i ≡ when b (indentLast o) i
+unfolding when indentLast inlinedLast orNoSpan
+inlined-is false o i = refl
+inlined-is true none i = refl
+inlined-is true (some sp) i = refl
 
-  pub inlined-span : (sp : SpanInfo) (r : Counts) (q : List ℕ) → last ≡ top.Span sp → Stands (when (not (sp .«newline_after»)) (increaseTopLevel sp) (indentationOf i m)) m r q
-      → Stands (when b (indentLast (spanIn last)) (indentationOf i m)) m r q
-  unfolding when indentLast spanIn
-  inlined-span sp r q e s = rw (h, e) s
+pub by-nothing : (b : Bool) (last : TopLevel) → b ≡ true → last ≡ top.Nothing → false ≡ (b && inlinedLast (spanIn last))
+unfolding inlinedLast spanIn
+by-nothing b last h e = rw (h, e)
+
+pub by-some : (b : Bool) (last : TopLevel) (sp : SpanInfo) → b ≡ true → last ≡ top.Span sp → not (sp .«newline_after») ≡ (b && inlinedLast (spanIn last))
+unfolding inlinedLast spanIn
+by-some b last sp h e = rw (h, e)
+
+pub by-no-break : (b : Bool) (last : TopLevel) → b ≡ false → false ≡ (b && inlinedLast (spanIn last))
+by-no-break b last h = rw h
+
+pub span-none : (last : TopLevel) → last ≡ top.Nothing → noSpan ≡ orNoSpan (spanIn last)
+unfolding orNoSpan spanIn
+span-none last e = rw e
+
+pub span-some : (last : TopLevel) (sp : SpanInfo) → last ≡ top.Span sp → sp ≡ orNoSpan (spanIn last)
+unfolding orNoSpan spanIn
+span-some last sp e = rw e
 
 pub six-none : (last : TopLevel) (b : Bool) → last ≡ top.Nothing → false ≡ sixIn (spanIn last) b
 unfolding sixIn spanIn
@@ -122,11 +127,12 @@ pub six-inlined : (last : TopLevel) (b : Bool) (sp : SpanInfo) → last ≡ top.
 unfolding sixIn spanIn
 six-inlined last b sp e h = rw (e, h)
 
-pub by-indented : (i : Counts) (m : List ℕ) (breaks : Bool) (n : ℕ) (last : TopLevel) (to : Counts) (p : List ℕ) (noted : Counts) (q : List ℕ) (f six : Bool) (level : ℕ) → Clean i m → spanIn last ≡ previousTopLevelReserved (indentationOf i m)
-    → Stands (when breaks (indentLast (spanIn last)) (indentationOf i m)) m to p → Stands (setPreviousReserved n (indentationOf to p)) p noted q → f ≡ leb 128 (i .nkinds) → six ≡ sixIn (spanIn last) f
-    → (level ≡ indentLevel false (indentationOf to p)) × (level ≤ 128) → Indented (indentationOf i m) breaks n m (record { six = six; level = level; indentation = noted }) q
-by-indented i m breaks n last to p noted q f six level c hl ht hn hf hs hv =
-    record { six = hs ∙ rw (hl, hf, full-is i m c); level = hv .0 ∙ rw (ht .is, hl); low = hv .1; stands = onward _ _ m p q to noted ht (rw (← hl, ← ht .is) hn) }
+pub by-indented : (i : Stacks) (breaks : Bool) (n : ℕ) (last : TopLevel) (b : Bool) (sp : SpanInfo) (to noted : Stacks) (f six : Bool) (level : ℕ) → spanIn last ≡ previousTopLevelReserved (indentationOf i)
+    → b ≡ (breaks && inlinedLast (spanIn last)) → sp ≡ orNoSpan (spanIn last) → Stands (when b (increaseTopLevel sp) (indentationOf i)) to → Stands (setPreviousReserved n (indentationOf to)) noted → f ≡ full (indentationOf i .indentTypes) → six ≡ sixIn (spanIn last) f
+    → (level ≡ indentLevel false (indentationOf to)) × (level ≤ 128) → Indented (indentationOf i) breaks n (record { six = six; level = level; stacks = noted })
+by-indented i breaks n last b sp to noted f six level hl hb hp ht hn hf hs hv =
+    let e : indentationOf to ≡ indentedIn breaks (indentationOf i) = ht .is ∙ rw (hb, hp, inlined-is, hl) in
+    record { six = hs ∙ rw (hl, hf); level = hv .0 ∙ rw e; low = hv .1; stands = rw (← e) hn }
 
 pub by-over : (limit : Limit) (most n : ℕ) → limit ≡ limits.Some most → ltb most n ≡ overLimit limit n
 unfolding overLimit
@@ -153,12 +159,12 @@ module _ (s : List ℕ) (x : Context) (i : ℕ) (known : Known s x) (v : Value) 
   unfolding formatReservedWord
   word-is room = rw (value-is s x i v ev, rules-case s (x .counts) room (x .options .casing) k (wordOf s (x .base) i) (ap (λ o. o .casing) (known .options)) ek)
 
-module _ (s : List ℕ) (x : Context) (i : ℕ) (st : Code) (m d : List ℕ) (ready : Ready s x i st m d) (v : Value) (ev : v ≡ valueIn s x i) (k : Case) (ek : k ≡ caseOf s (x .counts) (x .options .casing) (wordOf s (x .base) i)) (t : CodeText) (r : Code) (p q : List ℕ) where
+module _ (s : List ℕ) (x : Context) (i : ℕ) (st : Code) (d : List ℕ) (ready : Ready s x i st d) (v : Value) (ev : v ≡ valueIn s x i) (k : Case) (ek : k ≡ caseOf s (x .counts) (x .options .casing) (wordOf s (x .base) i)) (t : CodeText) (r : Code) (q : List ℕ) where
   abbrev now : State
-  now = stateOf s (x .base) st m d
+  now = stateOf s (x .base) st d
 
   abbrev before : Indentation ℕ
-  before = indentationOf (st .indentation) m
+  before = indentationOf (st .indentation)
 
   abbrev word : List ℕ
   word = written s x i (ready .known) v ev k ek
@@ -166,15 +172,15 @@ module _ (s : List ℕ) (x : Context) (i : ℕ) (st : Code) (m d : List ℕ) (re
   below : Below (i + 1) before
   below = below-up (omega arith) (ready .steady .words)
 
-  pub by-reserved : (n : Counts) → Stands (setPreviousReserved i before) m n p → Laid (length d) (Query.withSpaces (length d) word (textOf (st .text) d)) t q → r ≡ withIndentation st t n → Handled s x i formatReserved st m d r p q
+  pub by-reserved : (n : Stacks) → Stands (setPreviousReserved i before) n → Laid (length d) (Query.withSpaces (length d) word (textOf (st .text) d)) t q → r ≡ withIndentation st t n → Handled s x i formatReserved st d r q
   unfolding envOf stateOf
-  by-reserved n stands laid y =
-      rw y (by-halves s x i formatReserved st m d ready (Query.withSpaces (length d) word (textOf (st .text) d)) (setPreviousReserved i before) t n p q laid stands (reserved-below (i + 1) before below i (omega arith))
+  by-reserved n stands laid m =
+      rw m (by-halves s x i formatReserved st d ready (Query.withSpaces (length d) word (textOf (st .text) d)) (setPreviousReserved i before) t n q laid stands (reserved-below (i + 1) before below i (omega arith))
       (rw (reserved-words, word-is s x i (ready .known) v ev k ek (length d)) (halves.reserved (envIn s x (length d)) (hereIn s x i) now)))
 
   -- ---- a newline word
 
-  module _ (comment active breaks : Bool) (n : ℕ) (l : Newline) (hc : comment ≡ afterLineComment (hereIn s x i)) (ha : active ≡ ltb 0 (st .«inline_block» .level)) (hn : n ≡ span before) (hb : breaks ≡ (comment || not active && overLimit (x .options .«max_inline_arguments») n)) (told : Indented before breaks i m l p) where
+  module _ (comment active breaks : Bool) (n : ℕ) (l : Newline) (hc : comment ≡ afterLineComment (hereIn s x i)) (ha : active ≡ isActive (inlineBlockOf (st .«inline_block»))) (hn : n ≡ span before) (hb : breaks ≡ (comment || not active && overLimit (x .options .«max_inline_arguments») n)) (told : Indented before breaks i l) where
     abbrev broken : Text
     broken = Query.newline (length d) (x .options) breaks (l .six) comment (l .level) word (textOf (st .text) d)
 
@@ -182,11 +188,11 @@ module _ (s : List ℕ) (x : Context) (i : ℕ) (st : Code) (m d : List ℕ) (re
     unfolding envOf stateOf
     newline-ruled =
         let w = wordOf s (x .base) in
-        rw (told .six, six-is, told .level, level-words w, reserved-words, inlined-words, full-words w before, word-is s x i (ready .known) v ev k ek (length d), hb, hn, span-words w before, hc, ha, active-is (st .«inline_block») m, ready .known .options, ← last-top-level w before)
+        rw (told .six, six-is, told .level, level-words w, reserved-words, inlined-words, full-words w before, word-is s x i (ready .known) v ev k ek (length d), hb, hn, span-words w before, hc, ha, ready .known .options, ← last-top-level w before)
         (halves.newline-word (envIn s x (length d)) (hereIn s x i) now)
 
-    pub by-newline : Laid (length d) broken t q → r ≡ withIndentation st t (l .indentation) → Handled s x i formatNewlineReservedWord st m d r p q
-    by-newline laid y =
+    pub by-newline : Laid (length d) broken t q → r ≡ withIndentation st t (l .stacks) → Handled s x i formatNewlineReservedWord st d r q
+    by-newline laid m =
         let into : Below (i + 1) (indentedIn breaks before) = when-below (indentLast (previousTopLevelReserved before)) before (i + 1) breaks below (last-below before (i + 1) (previousTopLevelReserved before) below) in
-        rw y
-        (by-halves s x i formatNewlineReservedWord st m d ready broken (setPreviousReserved i (indentedIn breaks before)) t (l .indentation) p q laid (told .stands) (reserved-below (i + 1) (indentedIn breaks before) into i (omega arith)) newline-ruled)
+        rw m
+        (by-halves s x i formatNewlineReservedWord st d ready broken (setPreviousReserved i (indentedIn breaks before)) t (l .stacks) q laid (told .stands) (reserved-below (i + 1) (indentedIn breaks before) into i (omega arith)) newline-ruled)

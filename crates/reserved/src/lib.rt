@@ -2,13 +2,11 @@
 ghost use mathlib.Core.Path.{_≡_};
 ghost use mathlib.Core.Bool.{not, _&&_, _||_};
 ghost use Prim.Native.Nat.{_<_};
-ghost use Rattle.rules.specs.Indentation.{increaseTopLevel};
 ghost use Rattle.rules.specs.Formatter.{overLimit, formatNewlineReservedWord, formatReserved};
-ghost use Rattle.indentation.specs.Of.{spanIn, indentationOf, Clean, Stands};
+ghost use Rattle.indentation.specs.Of.{spanIn, indentationOf, Clean};
 ghost use Rattle.keeps.specs.CaseOf.{caseOf};
 ghost use Rattle.state.specs.Of.{Known, Ready, Handled, wordOf};
-ghost use Rattle.reserved.specs.Inlined.{indentLast, sixIn, Indented};
-ghost use Rattle.rules.specs.Base.{when};
+ghost use Rattle.reserved.specs.Inlined.{inlinedLast, orNoSpan, sixIn, Indented};
 use around::after_line_comment;
 use indentation::Indentation;
 use indentation::TopLevel;
@@ -25,7 +23,7 @@ use tokens::value_at;
 pub struct Newline {
     pub six: bool,
     pub level: usize,
-    pub indentation: Indentation,
+    pub stacks: Indentation,
 }
 
 // ---- shared with the words that start a level
@@ -38,21 +36,6 @@ pub fn case_of(sheet: &[u8], x: Context, i: usize) -> Case
     let o = x.options;
     let casing = o.casing;
     case_for(sheet, c, casing, value_at(sheet, i))
-}
-
-pub fn increase_if(
-    stacks: &mut [u32],
-    indentation: Indentation,
-    b: bool,
-    span: SpanInfo,
-) -> Indentation
-    requires { ⌜ Clean indentation (now stacks) ⌝ }
-    ensures { λ r. ⌜ Stands (when b (increaseTopLevel span) (indentationOf indentation (now (stacks .entry)))) (now (stacks .entry)) r (now (stacks .exit)) ⌝ }
-{
-    if b {
-        return indentation.increase_top_level(stacks, span);
-    }
-    indentation
 }
 
 // ---- a newline word
@@ -79,22 +62,31 @@ fn breaks_before(comment: bool, active: bool, limit: Limit, span: u32) -> bool
 }
 
 // A top-level word that was inlined is indented now.
-fn indent_inlined(
-    stacks: &mut [u32],
-    indentation: Indentation,
-    breaks: bool,
-    last: TopLevel,
-) -> Indentation
-    requires { ⌜ Clean indentation (now stacks) ⌝ }
-    ensures { λ r. ⌜ Stands (when breaks (indentLast (spanIn last)) (indentationOf indentation (now (stacks .entry)))) (now (stacks .entry)) r (now (stacks .exit)) ⌝ }
+fn indents_last(breaks: bool, last: TopLevel) -> bool
+    ensures { λ r. ⌜ r ≡ (breaks && inlinedLast (spanIn last)) ⌝ }
 {
     if breaks {
         return match last {
-            TopLevel::Nothing => indentation,
-            TopLevel::Span(sp) => increase_if(stacks, indentation, !sp.newline_after, sp),
+            TopLevel::Nothing => false,
+            TopLevel::Span(sp) => !sp.newline_after,
         };
     }
-    indentation
+    false
+}
+
+fn span_in(last: TopLevel) -> SpanInfo
+    ensures { λ r. ⌜ r ≡ orNoSpan (spanIn last) ⌝ }
+{
+    match last {
+        TopLevel::Nothing => SpanInfo {
+            full_span: 0,
+            blocks: 0,
+            newline_before: false,
+            newline_after: false,
+            arguments: 0,
+        },
+        TopLevel::Span(sp) => sp,
+    }
 }
 
 fn six_inlined(last: TopLevel, full: bool) -> bool
@@ -112,32 +104,30 @@ fn six_inlined(last: TopLevel, full: bool) -> bool
 }
 
 // The word is token n.
-fn newline_level(stacks: &mut [u32], indentation: Indentation, breaks: bool, n: u32) -> Newline
-    requires { ⌜ Clean indentation (now stacks) ⌝ }
+fn newline_level(stacks: Indentation, breaks: bool, n: u16) -> Newline
+    requires { ⌜ Clean stacks ⌝ }
     requires { ⌜ n < 65535 ⌝ }
-    ensures { λ r. ⌜ Indented (indentationOf indentation (now (stacks .entry))) breaks n (now (stacks .entry)) r (now (stacks .exit)) ⌝ }
+    ensures { λ r. ⌜ Indented (indentationOf stacks) breaks n r ⌝ }
 {
-    let last = indentation.previous_top_level_reserved(stacks);
-    let to = indent_inlined(stacks, indentation, breaks, last);
-    let level = to.indent_level(stacks, false);
-    let noted = to.set_previous_reserved(stacks, n);
+    let last = stacks.previous_top_level_reserved();
+    let to = stacks.increase_top_level_if(indents_last(breaks, last), span_in(last));
+    let noted = to.set_previous_reserved(n);
     Newline {
-        six: six_inlined(last, indentation.is_full()),
-        level,
-        indentation: noted,
+        six: six_inlined(last, stacks.is_full()),
+        level: to.indent_level(false),
+        stacks: noted,
     }
 }
 
 pub fn format_newline_reserved_word(
     query: &mut [u8],
-    stacks: &mut [u32],
     s: State,
     sheet: &[u8],
     x: Context,
     i: usize,
 ) -> State
-    requires { ⌜ Ready (now sheet) x i s (now stacks) (now query) ⌝ }
-    ensures { λ r. ⌜ Handled (now (sheet .entry)) x i formatNewlineReservedWord s (now (stacks .entry)) (now (query .entry)) r (now (stacks .exit)) (now (query .exit)) ⌝ }
+    requires { ⌜ Ready (now sheet) x i s (now query) ⌝ }
+    ensures { λ r. ⌜ Handled (now (sheet .entry)) x i formatNewlineReservedWord s (now (query .entry)) r (now (query .exit)) ⌝ }
 {
     let v = value_of(sheet, x, i);
     let k = case_of(sheet, x, i);
@@ -145,10 +135,10 @@ pub fn format_newline_reserved_word(
     let o = x.options;
     let limit = o.max_inline_arguments;
     let inline = s.inline_block;
-    let indentation = s.indentation;
+    let stacks = s.indentation;
     let comment = after_line_comment(sheet, x.base, c.tokens, i);
-    let breaks = breaks_before(comment, inline.is_active(), limit, indentation.span(stacks));
-    let l = newline_level(stacks, indentation, breaks, i as u32);
+    let breaks = breaks_before(comment, inline.is_active(), limit, stacks.span());
+    let l = newline_level(stacks, breaks, i as u16);
     let t = s.text;
     let u = query_reserved::format_newline_reserved_word(
         query,
@@ -162,28 +152,20 @@ pub fn format_newline_reserved_word(
         comment,
         l.level,
     );
-    let noted = l.indentation;
+    let noted = l.stacks;
     s.with_indentation(u, noted)
 }
 
 // ---- any other word
 
-pub fn format_reserved(
-    query: &mut [u8],
-    stacks: &mut [u32],
-    s: State,
-    sheet: &[u8],
-    x: Context,
-    i: usize,
-) -> State
-    requires { ⌜ Ready (now sheet) x i s (now stacks) (now query) ⌝ }
-    ensures { λ r. ⌜ Handled (now (sheet .entry)) x i formatReserved s (now (stacks .entry)) (now (query .entry)) r (now (stacks .exit)) (now (query .exit)) ⌝ }
+pub fn format_reserved(query: &mut [u8], s: State, sheet: &[u8], x: Context, i: usize) -> State
+    requires { ⌜ Ready (now sheet) x i s (now query) ⌝ }
+    ensures { λ r. ⌜ Handled (now (sheet .entry)) x i formatReserved s (now (query .entry)) r (now (query .exit)) ⌝ }
 {
     let v = value_of(sheet, x, i);
     let k = case_of(sheet, x, i);
-    let indentation = s.indentation;
-    let noted = indentation.set_previous_reserved(stacks, i as u32);
     let t = s.text;
     let u = query_reserved::format_reserved(query, t, sheet, v, k);
-    s.with_indentation(u, noted)
+    let stacks = s.indentation;
+    s.with_indentation(u, stacks.set_previous_reserved(i as u16))
 }

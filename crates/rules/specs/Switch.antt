@@ -3,13 +3,15 @@ use mathlib.Core.Bool.{Bool, true, false, not}
 use mathlib.Core.Option.{Option, none, some}
 use mathlib.Core.List.{List, [], _∷_}
 use Prim.Native.Nat.{ℕ, suc}
+use Prim.Native.String.{String}
 use lib.Dec.{eqb}
 use lib.ListN.{getD}
 use Rattle.rules.specs.declared.TokenKind.{TokenKind}
 use Rattle.rules.specs.declared.TokenKind.the-variants as kind
 use Rattle.rules.specs.declared.Turn.{Turn}
 use Rattle.rules.specs.declared.Turn.the-variants as turn
-use Rattle.rules.specs.Base.{if_then_else_, first}
+use Rattle.rules.specs.Bytes.{bytes}
+use Rattle.rules.specs.Base.{if_then_else_, anyOf, first}
 use Rattle.rules.specs.Tokens.{oneOf}
 
 -- on a byte a state stays, goes on to the next, or answers that the comment switches off (true) or on
@@ -17,25 +19,26 @@ pub data Move : Type 0 where
   stay next : Move
   answer : Bool → Move
 
-pub record OnByte : Type 0 where
-  pub byte : ℕ
+-- what a state does on any of these letters
+pub record OnLetters : Type 0 where
+  pub letters : List ℕ
   pub move : Move
 
 infix 70 _↪_
-unfoldable pub _↪_ : ℕ → Move → OnByte
-_↪_ c m = record { byte = c; move = m }
+unfoldable pub _↪_ : String → Move → OnLetters
+_↪_ letters m = record { letters = bytes letters; move = m }
 
-unfoldable pub fmtTable : List (List OnByte)
+unfoldable pub fmtTable : List (List OnLetters)
 fmtTable =
-    (45 ↪ next ∷ [])
-    ∷ (45 ↪ next ∷ [])
-    ∷ (32 ↪ stay ∷ 102 ↪ next ∷ 70 ↪ next ∷ [])
-    ∷ (109 ↪ next ∷ 77 ↪ next ∷ [])
-    ∷ (116 ↪ next ∷ 84 ↪ next ∷ [])
-    ∷ (32 ↪ stay ∷ 58 ↪ next ∷ [])
-    ∷ (32 ↪ stay ∷ 111 ↪ next ∷ 79 ↪ next ∷ [])
-    ∷ (110 ↪ answer false ∷ 78 ↪ answer false ∷ 102 ↪ next ∷ 70 ↪ next ∷ [])
-    ∷ (102 ↪ answer true ∷ 70 ↪ answer true ∷ [])
+    ("-" ↪ next ∷ [])
+    ∷ ("-" ↪ next ∷ [])
+    ∷ (" " ↪ stay ∷ "fF" ↪ next ∷ [])
+    ∷ ("mM" ↪ next ∷ [])
+    ∷ ("tT" ↪ next ∷ [])
+    ∷ (" " ↪ stay ∷ ":" ↪ next ∷ [])
+    ∷ (" " ↪ stay ∷ "oO" ↪ next ∷ [])
+    ∷ ("nN" ↪ answer false ∷ "fF" ↪ next ∷ [])
+    ∷ ("fF" ↪ answer true ∷ [])
     ∷ []
 
 -- in a state, or done: with an answer or without
@@ -49,12 +52,12 @@ movedBy state next = inState (suc state)
 movedBy state (answer off) = done (some off)
 
 -- a byte that the row has not ends the reading without an answer
-unfoldable pub movedTo : ℕ → Option OnByte → Reading
+unfoldable pub movedTo : ℕ → Option OnLetters → Reading
 movedTo state none = done none
 movedTo state (some m) = movedBy state (m .move)
 
 unfoldable pub moved : Reading → ℕ → Reading
-moved (inState n) c = movedTo n (first (λ m. eqb (m .byte) c) (getD fmtTable n []))
+moved (inState n) c = movedTo n (first (λ m. anyOf (eqb c) (m .letters)) (getD fmtTable n []))
 moved (done o) c = done o
 
 unfoldable pub readAll : Reading → List ℕ → Reading

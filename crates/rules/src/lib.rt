@@ -85,10 +85,10 @@ pub struct FormatOptions {
 
 pub struct SpanInfo {
     pub full_span: u32,
-    pub blocks: u32,
+    pub blocks: u16,
     pub newline_before: bool,
     pub newline_after: bool,
-    pub arguments: u32,
+    pub arguments: u16,
 }
 
 // ---- indentation.rs
@@ -116,8 +116,8 @@ pub enum Sort {
 pub struct Scan {
     pub level: u32,
     pub full_span: u32,
-    pub blocks: u32,
-    pub arguments: u32,
+    pub blocks: u16,
+    pub arguments: u16,
 }
 
 // How a token is taken: dropped after a switch comment; a switch comment, which switches off or on; laid out; copied.

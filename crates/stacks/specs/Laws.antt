@@ -1,7 +1,7 @@
 -- Laws of a stack in an array. Assumes nothing.
 use mathlib.Core.Path.{_≡_, refl, sym, ap, _∙_}
 use mathlib.Core.Logic.{_⊎_, inl, inr, ⊎-elim}
-use mathlib.Core.Bool.{Bool, true, false}
+use mathlib.Core.Bool.{Bool, true, false, _&&_}
 use mathlib.Core.List.{List, _∷_, map, tail}
 use Prim.Native.Nat.{ℕ, zero, suc, _+_, _-_, _≤_, _<_}
 use native.Mathlib.Numerals.{add-one, lt-of-le-of-ne}
@@ -10,7 +10,25 @@ use lib.Dec.{eqb, ltb}
 use lib.ListN.{length, getD, set, replicate, length-set, length-replicate, length-map}
 use lib.Seq.{getD-set-same, getD-set-other, ext-getD}
 use borrow.Author.Tests.{eqb-true, eqb-false, ltb-true, ltb-false}
+use Rattle.rules.specs.Base.{when}
 use Rattle.stacks.specs.Stack.{stack, Kept}
+
+false-true : {A : Type 0} → false ≡ true → A
+false-true e = absurd (let z : _≡_ {A = ℕ} 0 1 = cc in omega arith)
+
+pub left-of : (a b : Bool) → (a && b) ≡ true → a ≡ true
+left-of true b e = refl
+left-of false b e = false-true e
+
+pub right-of : (a b : Bool) → (a && b) ≡ true → b ≡ true
+right-of true b e = e
+right-of false b e = false-true e
+
+-- where not both hold, a rule that needs both leaves what it is given
+pub unless-both : {A : Type 0} (a b : Bool) (f : A → A) (x : A) → (a && b) ≡ false → (b ≡ false → f x ≡ x) → when a f x ≡ x
+unfolding when
+unless-both true b f x e h = h e
+unless-both false b f x e h = refl
 
 same-or-by : (m n : ℕ) (b : Bool) → eqb m n ≡ b → (m ≡ n) ⊎ (m ≡ n → ⊥)
 same-or-by m n true h = inl (eqb-true m n h)

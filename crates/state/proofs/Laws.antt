@@ -1,5 +1,5 @@
 -- From what a handler does to the text and to the stacks to what its rule says. Assumes nothing.
-use mathlib.Core.Path.{_≡_, refl, sym, _∙_}
+use mathlib.Core.Path.{_≡_, refl, sym}
 use mathlib.Core.Bool.{Bool}
 use mathlib.Core.List.{List}
 use Prim.Native.Nat.{ℕ, _+_, _≤_, _<_}
@@ -16,8 +16,7 @@ use Rattle.rules.specs.State.{State, onText}
 use Rattle.text.specs.Held.{textOf, Laid}
 use Rattle.text.specs.declared.Text.{Text as CodeText}
 use Rattle.indentation.specs.Of.{indentationOf, Stands}
-use Rattle.indentation.specs.declared.Indentation.{Indentation as Counts}
-use Rattle.inline_block.proofs.Laws.{blocks-same, clean-same}
+use Rattle.indentation.specs.declared.Indentation.{Indentation as Stacks}
 use Rattle.query.proofs.Halves.{halves}
 use Rattle.tokens.specs.Placed.{Within}
 use Rattle.around.specs.Readable.{Readable, sheeted-readable, readable-within}
@@ -27,18 +26,18 @@ use Rattle.state.specs.Words.{onWords}
 use Rattle.state.specs.Below.{Below, below-up}
 use Rattle.state.specs.Of.{valueIn, wordOf, stateOf, withText, withIndentation, Known, Ready, envIn, hereIn, Handled}
 
-module _ (s : List ℕ) (x : Context) (i : ℕ) (f : Env → Here → State → State) (st : Code) (m d : List ℕ) (ready : Ready s x i st m d) where
+module _ (s : List ℕ) (x : Context) (i : ℕ) (f : Env → Here → State → State) (st : Code) (d : List ℕ) (ready : Ready s x i st d) where
   abbrev ruled : State
-  ruled = f (envIn s x (length d)) (hereIn s x i) (stateOf s (x .base) st m d)
+  ruled = f (envIn s x (length d)) (hereIn s x i) (stateOf s (x .base) st d)
 
   -- a handler that changes the text alone
-  pub by-text : (g : Text → Text) (t : CodeText) (q : List ℕ) → Laid (length d) (g (textOf (st .text) d)) t q → ruled ≡ onText g (stateOf s (x .base) st m d)
-      → Handled s x i f st m d (withText st t) m q
+  pub by-text : (g : Text → Text) (t : CodeText) (q : List ℕ) → Laid (length d) (g (textOf (st .text) d)) t q → ruled ≡ onText g (stateOf s (x .base) st d)
+      → Handled s x i f st d (withText st t) q
   unfolding stateOf onText
   by-text g t q laid e =
       let k = ready .steady in
       let l = k .level in
-      let n = k .index in
+      let m = k .index in
       record {
         room = laid .room;
         steady = record { held = laid .held; stacks = k .stacks; words = below-up (omega arith) (k .words); inlined = k .inlined; level = omega arith; index = omega arith };
@@ -46,18 +45,17 @@ module _ (s : List ℕ) (x : Context) (i : ℕ) (f : Env → Here → State → 
       }
 
   -- a handler that changes the text and the stacks
-  pub by-halves : (w : Text) (j : Indentation ℕ) (t : CodeText) (c : Counts) (n q : List ℕ) → Laid (length d) w t q → Stands j m c n → Below (i + 1) j → ruled ≡ halves w (onWords (wordOf s (x .base)) j) (stateOf s (x .base) st m d)
-      → Handled s x i f st m d (withIndentation st t c) n q
+  pub by-halves : (w : Text) (j : Indentation ℕ) (t : CodeText) (n : Stacks) (q : List ℕ) → Laid (length d) w t q → Stands j n → Below (i + 1) j → ruled ≡ halves w (onWords (wordOf s (x .base)) j) (stateOf s (x .base) st d)
+      → Handled s x i f st d (withIndentation st t n) q
   unfolding stateOf halves
-  by-halves w j t c n q laid stands below e =
+  by-halves w j t n q laid stands below e =
       let k = ready .steady in
       let l = k .level in
-      let y = k .index in
-      let long = stands .clean .sound .long ∙ sym (k .stacks .sound .long) in
+      let m = k .index in
       record {
         room = laid .room;
-        steady = record { held = laid .held; stacks = stands .clean; words = rw (stands .is) below; inlined = clean-same (st .«inline_block») m n (stands .above) long (k .inlined); level = omega arith; index = omega arith };
-        state = rw (laid .text, stands .is, blocks-same (st .«inline_block») m n (stands .above)) (sym e);
+        steady = record { held = laid .held; stacks = stands .clean; words = rw (stands .is) below; inlined = k .inlined; level = omega arith; index = omega arith };
+        state = rw (laid .text, stands .is) (sym e);
       }
 
 -- the value of token i stands in the sheet, and is the token's
@@ -72,15 +70,15 @@ unfolding part
 value-is s x i v e = rw e
 
 -- a handler that changes the text alone, and reads the token's value
-module _ (s : List ℕ) (x : Context) (i : ℕ) (f : Env → Here → State → State) (st : Code) (m d : List ℕ) (ready : Ready s x i st m d) where
+module _ (s : List ℕ) (x : Context) (i : ℕ) (f : Env → Here → State → State) (st : Code) (d : List ℕ) (ready : Ready s x i st d) where
   pub by-value : (g : List ℕ → Text → Text) (v : Value) (t : CodeText) (r : Code) (q : List ℕ) → v ≡ valueIn s x i → Laid (length d) (g (bytes s (v .start) (v .len)) (textOf (st .text) d)) t q → r ≡ withText st t
-      → f (envIn s x (length d)) (hereIn s x i) (stateOf s (x .base) st m d) ≡ onText (g (wordOf s (x .base) i)) (stateOf s (x .base) st m d) → Handled s x i f st m d r m q
-  by-value g v t r q e laid y h = rw y (by-text s x i f st m d ready (g (wordOf s (x .base) i)) t q (rw (value-is s x i v e) at laid) h)
+      → f (envIn s x (length d)) (hereIn s x i) (stateOf s (x .base) st d) ≡ onText (g (wordOf s (x .base) i)) (stateOf s (x .base) st d) → Handled s x i f st d r q
+  by-value g v t r q e laid m h = rw m (by-text s x i f st d ready (g (wordOf s (x .base) i)) t q (rw (value-is s x i v e) at laid) h)
 
 -- the level of a new line, as the code reads it
-pub level-is : (s : List ℕ) (base : ℕ) (st : Code) (m d : List ℕ) (b : Bool) → indentLevel b (stateOf s base st m d .indentation) ≡ indentLevel b (indentationOf (st .indentation) m)
+pub level-is : (s : List ℕ) (base : ℕ) (st : Code) (d : List ℕ) (b : Bool) → indentLevel b (stateOf s base st d .indentation) ≡ indentLevel b (indentationOf (st .indentation))
 unfolding stateOf onWords indentLevel
-level-is s base st m d b = refl
+level-is s base st d b = refl
 
 -- what the readers around a token ask, of a sheet in its context
 pub known-readable : (s : List ℕ) (x : Context) → Known s x → Readable s (x .base) (x .counts .tokens)

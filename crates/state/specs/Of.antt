@@ -23,13 +23,13 @@ use Rattle.state.specs.Below.{Below}
 abbrev pub wordOf : List ℕ → ℕ → ℕ → List ℕ
 wordOf s base i = tokenOf s base i .value
 
--- the rules' state that the code's state, the memory m of its stacks and its buffer d stand for; previous words are told by their tokens
-unfoldable pub stateOf : List ℕ → ℕ → Code → List ℕ → List ℕ → State
-stateOf s base st m d =
+-- the rules' state that the code's state and its buffer stand for; previous words are told by their tokens
+unfoldable pub stateOf : List ℕ → ℕ → Code → List ℕ → State
+stateOf s base st d =
     record {
       text = textOf (st .text) d;
-      indentation = onWords (wordOf s base) (indentationOf (st .indentation) m);
-      inlineBlock = block.inlineBlockOf (st .«inline_block») m;
+      indentation = onWords (wordOf s base) (indentationOf (st .indentation));
+      inlineBlock = block.inlineBlockOf (st .«inline_block»);
       blockLevel = st .«block_level»;
       index = st .index;
     }
@@ -47,19 +47,19 @@ pub record Known (s : List ℕ) (x : Context) : Type 0 where
   pub options : x .options ≡ optionsOf s
 
 -- what every step keeps, k tokens being taken
-pub record Steady (k : ℕ) (st : Code) (m d : List ℕ) : Type 0 where
+pub record Steady (k : ℕ) (st : Code) (d : List ℕ) : Type 0 where
   pub held : Held (st .text) d
-  pub stacks : Clean (st .indentation) m
-  pub words : Below k (indentationOf (st .indentation) m)
-  pub inlined : block.Clean (st .«inline_block») m
+  pub stacks : Clean (st .indentation)
+  pub words : Below k (indentationOf (st .indentation))
+  pub inlined : block.Clean (st .«inline_block»)
   pub level : st .«block_level» ≤ k
   pub index : st .index ≤ k
 
 -- token i can be taken
-pub record Ready (s : List ℕ) (x : Context) (i : ℕ) (st : Code) (m d : List ℕ) : Type 0 where
+pub record Ready (s : List ℕ) (x : Context) (i : ℕ) (st : Code) (d : List ℕ) : Type 0 where
   pub known : Known s x
   pub here : i < x .counts .tokens
-  pub steady : Steady i st m d
+  pub steady : Steady i st d
 
 abbrev pub envIn : List ℕ → Context → ℕ → Env
 envIn s x room = envOf s (x .counts) room
@@ -67,11 +67,15 @@ envIn s x room = envOf s (x .counts) room
 abbrev pub hereIn : List ℕ → Context → ℕ → Here
 hereIn s x i = hereAt s (x .base) (x .counts .tokens) i
 
--- token i was taken by the rule f: from the state st, the memory m and the buffer d to r, n and q
-pub record Handled (s : List ℕ) (x : Context) (i : ℕ) (f : Env → Here → State → State) (st : Code) (m d : List ℕ) (r : Code) (n q : List ℕ) : Type 0 where
+-- a rule that is given what was read ahead
+abbrev pub given : {A : Type 0} → (Env → Here → A → State → State) → A → Env → Here → State → State
+given f a e h s = f e h a s
+
+-- token i was taken by the rule f: from the state st and the buffer d to r and q
+pub record Handled (s : List ℕ) (x : Context) (i : ℕ) (f : Env → Here → State → State) (st : Code) (d : List ℕ) (r : Code) (q : List ℕ) : Type 0 where
   pub room : length q ≡ length d
-  pub steady : Steady (i + 1) r n q
-  pub state : stateOf s (x .base) r n q ≡ f (envIn s x (length d)) (hereIn s x i) (stateOf s (x .base) st m d)
+  pub steady : Steady (i + 1) r q
+  pub state : stateOf s (x .base) r q ≡ f (envIn s x (length d)) (hereIn s x i) (stateOf s (x .base) st d)
 
 -- the value of token i: where it starts in the sheet, and its length
 abbrev pub valueIn : List ℕ → Context → ℕ → Value

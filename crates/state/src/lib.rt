@@ -1,5 +1,4 @@
-// The layout state: a value that each step takes and hands back. The entries of its stacks stand in a memory that is lent beside it: as a value they would
-// be copied from call to call.
+// The layout state: a value that each step takes and hands back.
 ghost use mathlib.Core.Path.{_≡_};
 ghost use Prim.Native.Nat.{_<_};
 ghost use Rattle.state.specs.Of.{Known, valueIn, withText, withIndentation};

@@ -1,33 +1,33 @@
 -- Each handler's rule from what its calls gave. Assumes nothing.
-use mathlib.Core.Path.{_≡_, _∙_}
+use mathlib.Core.Path.{_≡_, refl, _∙_}
 use mathlib.Core.Bool.{Bool, true, false, not, _&&_}
 use mathlib.Core.Option.{Option}
-use mathlib.Core.List.{List}
-use Prim.Native.Nat.{ℕ, _+_, _≤_, _<_}
+use mathlib.Core.List.{List, [], _∷_}
+use Prim.Native.Nat.{ℕ, _+_, _-_, _≤_, _<_}
 use native.Mathlib.Omega.{arith}
-use lib.Dec.{leb, ltb}
+use lib.Dec.{ltb}
 use lib.ListN.{length}
 use Rattle.rules.specs.declared.Case.{Case}
 use Rattle.rules.specs.declared.Limit.{Limit}
 use Rattle.rules.specs.declared.Limit.the-variants as limits
 use Rattle.rules.specs.declared.SpanInfo.{SpanInfo}
+use Rattle.rules.specs.declared.IndentType.{IndentType}
+use Rattle.rules.specs.declared.IndentType.the-variants.{Top, Block, FoldedBlock}
 use Rattle.rules.specs.Text.{Text}
 use Rattle.rules.specs.Tokens.{Here}
 use Rattle.rules.specs.Words.{tokenAt}
 use Rattle.rules.specs.Sheet.{Env, envOf}
 use Rattle.rules.specs.State.{State}
-use Rattle.rules.specs.Span.{topLevelTokensInfo}
-use Rattle.rules.specs.Indentation.{Indentation, indentLevel, increaseTopLevel, decreaseTopLevel, setPreviousTopLevel, previousTopLevelReserved}
-use Rattle.rules.specs.InlineBlock.{curLen, full}
-use Rattle.rules.specs.Formatter.{spanInfo, newlineBefore, formatTopLevelReservedWord, formatTopLevelReservedWordNoIndent, formatNewlineAfterReservedWord}
+use Rattle.rules.specs.Indentation.{Indentation, unfolded, indentLevel, increaseTopLevel, popTop, decreaseTopLevel, setPreviousTopLevel, previousTopLevelReserved}
+use Rattle.rules.specs.InlineBlock.{full}
+use Rattle.rules.specs.Formatter.{newlineBefore, formatTopLevelReservedWord, formatTopLevelReservedWordNoIndent, formatNewlineAfterReservedWord}
 use Rattle.text.specs.Held.{textOf, Laid}
 use Rattle.text.specs.declared.Text.{Text as CodeText}
-use Rattle.indentation.specs.Of.{spanIn, indentationOf, Stands}
-use Rattle.indentation.specs.declared.Indentation.{Indentation as Counts}
-use Rattle.indentation.proofs.StandLaws.{full-is, onward}
+use Rattle.indentation.specs.Of.{spanIn, typesOf, indentationOf, Clean, Stands}
+use Rattle.indentation.proofs.Laws.{types-length}
+use Rattle.indentation.specs.declared.Indentation.{Indentation as Stacks}
 use Rattle.indentation.specs.declared.TopLevel.{TopLevel}
 use Rattle.indentation.specs.declared.TopLevel.the-variants as top
-use Rattle.inline_block.specs.Of.{inlineBlockOf}
 use Rattle.query.specs.Query
 use Rattle.query.specs.declared.Value.{Value}
 use Rattle.query.proofs.Halves as halves
@@ -36,28 +36,96 @@ use Rattle.state.specs.declared.State.{State as Code}
 use Rattle.state.specs.declared.Context.{Context}
 use Rattle.state.specs.Words.{onWords, top-words, untop-words, top-level-words, last-top-level}
 use Rattle.state.specs.Below.{Below, below-up, top-below, untop-below, top-level-below}
-use Rattle.state.specs.Of.{valueIn, wordOf, stateOf, withIndentation, Known, Ready, envIn, hereIn, Handled}
+use Rattle.state.specs.Of.{valueIn, wordOf, stateOf, withIndentation, Known, Ready, envIn, hereIn, Handled, given}
 use Rattle.state.proofs.Laws.{by-halves}
+use Rattle.rules.specs.Base.{if_then_else_, when}
 use Rattle.reserved.proofs.Laws.{when-below, when-words, level-words, full-words, written, word-is}
 use Rattle.top_level.specs.declared.Levels.{Levels}
-use Rattle.top_level.specs.Levels.{onSpan, outOf, intoOf, Turned}
-use Rattle.rules.specs.Base.{when}
+use Rattle.top_level.specs.Levels.{outOf, intoOf, Turned}
 
 -- ---- the stacks around the word
 
-pub by-turned : (i : Counts) (m : List ℕ) (before after : Bool) (sp : SpanInfo) (n : ℕ) (from : Counts) (p : List ℕ) (to : Counts) (o : List ℕ) (noted : Counts) (q : List ℕ) (out into : ℕ) (six : Bool)
-    → Stands (when before decreaseTopLevel (indentationOf i m)) m from p → Stands (when after (increaseTopLevel sp) (indentationOf from p)) p to o → Stands (setPreviousTopLevel n sp (indentationOf to o)) o noted q
-    → (out ≡ indentLevel false (indentationOf from p)) × (out ≤ 128) → six ≡ leb 128 (from .nkinds) → (into ≡ indentLevel false (indentationOf to o)) × (into ≤ 128)
-    → Turned (indentationOf i m) before after sp n m (record { out = out; six = six; into = into; indentation = noted }) q
-by-turned i m before after sp n from p to o noted q out into six hf ht hn ho hs hi =
-    record {
-      out = ho .0 ∙ rw (hf .is);
-      out-low = ho .1;
-      six = hs ∙ rw (full-is from p (hf .clean), hf .is);
-      into = hi .0 ∙ rw (ht .is, hf .is);
-      into-low = hi .1;
-      stands = onward _ _ m p q from noted hf (onward _ _ p o q to noted ht (rw (← hf .is, ← ht .is) hn));
-    }
+-- a top-level entry counts for one level
+record Counts (less more : List IndentType) : Type 0 where
+  fewer : length less ≤ length more
+  levels : unfolded more ≡ unfolded less + (length more - length less)
+
+counts-same : (ts : List IndentType) → Counts ts ts
+counts-same ts = record { fewer = omega arith; levels = omega arith }
+
+counts-top : (ts : List IndentType) → Counts ts (Top ∷ ts)
+unfolding unfolded
+counts-top ts = record { fewer = omega arith; levels = omega arith }
+
+untop-counts : (b : Bool) (i : Indentation ℕ) → Counts (when b decreaseTopLevel i .indentTypes) (i .indentTypes)
+unfolding when decreaseTopLevel popTop
+untop-counts false i = counts-same (i .indentTypes)
+untop-counts true i = go (i .indentTypes) refl
+  where
+    go : (ts : List IndentType) → i .indentTypes ≡ ts → Counts (popTop ts i .indentTypes) ts
+    go [] e = rw e (counts-same [])
+    go (Top ∷ ts) e = counts-top ts
+    go (Block ∷ ts) e = rw e (counts-same (Block ∷ ts))
+    go (FoldedBlock ∷ ts) e = rw e (counts-same (FoldedBlock ∷ ts))
+
+top-counts : (b : Bool) (sp : SpanInfo) (i : Indentation ℕ) → Counts (i .indentTypes) (when b (increaseTopLevel sp) i .indentTypes)
+unfolding when increaseTopLevel
+top-counts false sp i = counts-same (i .indentTypes)
+top-counts true sp i = go (full (i .indentTypes))
+  where
+    go : (b : Bool) → Counts (i .indentTypes) ((if b then i else record { indentTypes = Top ∷ i .indentTypes; topLevelSpan = sp .«full_span» ∷ i .topLevelSpan; previous = i .previous }) .indentTypes)
+    go true = counts-same (i .indentTypes)
+    go false = counts-top (i .indentTypes)
+
+level-counts : (less more : Stacks) → Counts (indentationOf less .indentTypes) (indentationOf more .indentTypes)
+    → (less .nkinds ≤ more .nkinds) × (indentLevel false (indentationOf more) ≡ indentLevel false (indentationOf less) + (more .nkinds - less .nkinds))
+unfolding indentationOf indentLevel
+level-counts less more c =
+    let p = c .fewer in
+    let q = c .levels in
+    let m = types-length more in
+    let l = types-length less in
+    (omega arith, omega arith)
+
+pub by-fewer : (i from : Stacks) (b : Bool) → Stands (when b decreaseTopLevel (indentationOf i)) from → from .nkinds ≤ i .nkinds
+by-fewer i from b h = level-counts from i (rw (h .is) (untop-counts b (indentationOf i))) .0
+
+pub by-more : (from to : Stacks) (b : Bool) (sp : SpanInfo) → Stands (when b (increaseTopLevel sp) (indentationOf from)) to → from .nkinds ≤ to .nkinds
+by-more from to b sp h = level-counts from to (rw (h .is) (top-counts b sp (indentationOf from))) .0
+
+out-told : (i from : Stacks) (b : Bool) (level : ℕ) → level ≡ indentLevel false (indentationOf i) → Stands (when b decreaseTopLevel (indentationOf i)) from
+    → level ≡ indentLevel false (indentationOf from) + (i .nkinds - from .nkinds)
+out-told i from b level e h = e ∙ level-counts from i (rw (h .is) (untop-counts b (indentationOf i))) .1
+
+pub by-level : (i from : Stacks) (b : Bool) (level : ℕ) → level ≡ indentLevel false (indentationOf i) → Stands (when b decreaseTopLevel (indentationOf i)) from → i .nkinds - from .nkinds ≤ level
+by-level i from b level e h = let o = out-told i from b level e h in omega arith
+
+unfolded-within : (ts : List IndentType) → unfolded ts ≤ length ts
+unfolding unfolded
+unfolded-within [] = omega arith
+unfolded-within (Top ∷ ts) = let h = unfolded-within ts in omega arith
+unfolded-within (Block ∷ ts) = let h = unfolded-within ts in omega arith
+unfolded-within (FoldedBlock ∷ ts) = let h = unfolded-within ts in omega arith
+
+level-within : (i : Stacks) → Clean i → indentLevel false (indentationOf i) ≤ 128
+unfolding indentationOf indentLevel
+level-within i c =
+    let w = c .kinds .within in
+    let l = types-length i in
+    let u = unfolded-within (typesOf i) in
+    omega arith
+
+pub by-turned : (i : Stacks) (level : ℕ) (before after : Bool) (sp : SpanInfo) (n : ℕ) (from to noted : Stacks) (six : Bool) → level ≡ indentLevel false (indentationOf i) → Stands (when before decreaseTopLevel (indentationOf i)) from
+    → Stands (when after (increaseTopLevel sp) (indentationOf from)) to → Stands (setPreviousTopLevel n sp (indentationOf to)) noted → six ≡ full (indentationOf from .indentTypes)
+    → Turned (indentationOf i) before after sp n (record { out = level - (i .nkinds - from .nkinds); six = six; into = (level - (i .nkinds - from .nkinds)) + (to .nkinds - from .nkinds); stacks = noted })
+by-turned i level before after sp n from to noted six hl hf ht hn hs =
+    let o = out-told i from before level hl hf in
+    let p = level-counts from to (rw (ht .is) (top-counts after sp (indentationOf from))) .1 in
+    let low = level-within from (hf .clean) in
+    let high = level-within to (ht .clean) in
+    let out : level - (i .nkinds - from .nkinds) ≡ indentLevel false (indentationOf from) = omega arith in
+    let into : (level - (i .nkinds - from .nkinds)) + (to .nkinds - from .nkinds) ≡ indentLevel false (indentationOf to) = omega arith in
+    record { out = out ∙ rw (hf .is); out-low = omega arith; six = hs ∙ rw (hf .is); into = into ∙ rw (ht .is, hf .is); into-low = omega arith; stands = rw (← hf .is, ← ht .is) hn }
 
 module _ (i : Indentation ℕ) (before after : Bool) (sp : SpanInfo) where
   out-words : (w : ℕ → List ℕ) → onWords w (outOf before i) ≡ when before decreaseTopLevel (onWords w i)
@@ -75,9 +143,6 @@ module _ (i : Indentation ℕ) (before after : Bool) (sp : SpanInfo) where
 
 pub by-create : (b create after : Bool) → create ≡ b → after ≡ true → not create ≡ (after && not b)
 by-create b create after e h = rw (h, e)
-
-pub level-few : (s : List ℕ) (x : Context) (i level : ℕ) → Known s x → i < x .counts .tokens → level ≤ i → level ≤ 1024
-level-few s x i level known here h = let f = known .sheeted .few .tokens in omega arith
 
 pub number-few : (s : List ℕ) (x : Context) (i : ℕ) → Known s x → i < x .counts .tokens → i < 65535
 number-few s x i known here = let f = known .sheeted .few .tokens in omega arith
@@ -100,30 +165,26 @@ by-limit limit o most len b e h = rw e h
 
 -- ---- the handlers
 
-module _ (s : List ℕ) (x : Context) (i : ℕ) (st : Code) (m d : List ℕ) (ready : Ready s x i st m d) (v : Value) (ev : v ≡ valueIn s x i) (k : Case) (ek : k ≡ caseOf s (x .counts) (x .options .casing) (wordOf s (x .base) i)) (len : ℕ) (hlen : len ≡ curLen (inlineBlockOf (st .«inline_block») m)) (sp : SpanInfo) (hsp : sp ≡ topLevelTokensInfo (x .options) (st .«block_level») len (hereIn s x i .after)) (t : CodeText) (r : Code) (p q : List ℕ) where
+module _ (s : List ℕ) (x : Context) (i : ℕ) (st : Code) (d : List ℕ) (ready : Ready s x i st d) (v : Value) (ev : v ≡ valueIn s x i) (k : Case) (ek : k ≡ caseOf s (x .counts) (x .options .casing) (wordOf s (x .base) i)) (sp : SpanInfo) (t : CodeText) (r : Code) (q : List ℕ) where
   abbrev now : State
-  now = stateOf s (x .base) st m d
+  now = stateOf s (x .base) st d
 
   abbrev stacks : Indentation ℕ
-  stacks = indentationOf (st .indentation) m
+  stacks = indentationOf (st .indentation)
 
   abbrev word : List ℕ
   word = written s x i (ready .known) v ev k ek
 
-  span-is : sp ≡ spanInfo (envIn s x (length d)) (hereIn s x i) now
-  unfolding spanInfo envOf stateOf
-  span-is = hsp ∙ rw (hlen, ready .known .options)
-
   -- from what the handler does with this span
-  by-span : (f : Env → Here → SpanInfo → State → State) (before after : Bool) (l : Levels) (w : Text) → Turned stacks before after sp i m l p → Laid (length d) w t q → r ≡ withIndentation st t (l .indentation)
-      → f (envIn s x (length d)) (hereIn s x i) sp now ≡ halves.halves w (onWords (wordOf s (x .base)) (setPreviousTopLevel i sp (intoOf before after sp stacks))) now → Handled s x i (onSpan f) st m d r p q
-  by-span f before after l w told laid y e =
-      rw y
-      (by-halves s x i (onSpan f) st m d ready w (setPreviousTopLevel i sp (intoOf before after sp stacks)) t (l .indentation) p q laid (told .stands)
-      (top-level-below (i + 1) (intoOf before after sp stacks) (into-below stacks before after sp (i + 1) (below-up (omega arith) (ready .steady .words))) i sp (omega arith)) (rw (← span-is) e))
+  by-span : (f : Env → Here → SpanInfo → State → State) (before after : Bool) (l : Levels) (w : Text) → Turned stacks before after sp i l → Laid (length d) w t q → r ≡ withIndentation st t (l .stacks)
+      → f (envIn s x (length d)) (hereIn s x i) sp now ≡ halves.halves w (onWords (wordOf s (x .base)) (setPreviousTopLevel i sp (intoOf before after sp stacks))) now → Handled s x i (given f sp) st d r q
+  by-span f before after l w told laid m e =
+      rw m
+      (by-halves s x i (given f sp) st d ready w (setPreviousTopLevel i sp (intoOf before after sp stacks)) t (l .stacks) q laid (told .stands)
+      (top-level-below (i + 1) (intoOf before after sp stacks) (into-below stacks before after sp (i + 1) (below-up (omega arith) (ready .steady .words))) i sp (omega arith)) e)
 
   -- what the handler reads of its levels, in the rules' words
-  module _ (before after : Bool) (l : Levels) (told : Turned stacks before after sp i m l p) where
+  module _ (before after : Bool) (l : Levels) (told : Turned stacks before after sp i l) where
     abbrev out : Indentation (List ℕ)
     out = when before decreaseTopLevel (onWords (wordOf s (x .base)) stacks)
 
@@ -142,32 +203,32 @@ module _ (s : List ℕ) (x : Context) (i : ℕ) (st : Code) (m d : List ℕ) (re
     noted-is : onWords (wordOf s (x .base)) (setPreviousTopLevel i sp (intoOf before after sp stacks)) ≡ setPreviousTopLevel (wordOf s (x .base) i) sp into
     noted-is = rw (top-level-words, into-words stacks before after sp (wordOf s (x .base)))
 
-  pub by-top-level : (after : Bool) (l : Levels) → after ≡ (sp .«newline_after» && not (tokenAt s i .create)) → Turned stacks (sp .«newline_before») after sp i m l p
-      → Laid (length d) (Query.topLevel (length d) (x .options) (sp .«newline_before») (l .out) word after (l .six) (l .into) (textOf (st .text) d)) t q → r ≡ withIndentation st t (l .indentation)
-      → Handled s x i (onSpan formatTopLevelReservedWord) st m d r p q
+  pub by-top-level : (after : Bool) (l : Levels) → after ≡ (sp .«newline_after» && not (tokenAt s i .create)) → Turned stacks (sp .«newline_before») after sp i l
+      → Laid (length d) (Query.topLevel (length d) (x .options) (sp .«newline_before») (l .out) word after (l .six) (l .into) (textOf (st .text) d)) t q → r ≡ withIndentation st t (l .stacks)
+      → Handled s x i (given formatTopLevelReservedWord sp) st d r q
   unfolding envOf stateOf
-  by-top-level after l ha told laid y =
+  by-top-level after l ha told laid m =
       let b = sp .«newline_before» in
-      by-span formatTopLevelReservedWord b after l (Query.topLevel (length d) (x .options) b (l .out) word after (l .six) (l .into) (textOf (st .text) d)) told laid y
+      by-span formatTopLevelReservedWord b after l (Query.topLevel (length d) (x .options) b (l .out) word after (l .six) (l .into) (textOf (st .text) d)) told laid m
       (rw (out-is b after l told, six-is b after l told, into-is b after l told, noted-is b after l told, word-is s x i (ready .known) v ev k ek (length d), ha, ready .known .options)
       (halves.top-level (envIn s x (length d)) (hereIn s x i) now sp))
 
-  pub by-no-indent : (l : Levels) → Turned stacks (sp .«newline_before») false sp i m l p
-      → Laid (length d) (Query.topLevel (length d) (x .options) (sp .«newline_before») (l .out) word (sp .«newline_after») false (l .into) (textOf (st .text) d)) t q → r ≡ withIndentation st t (l .indentation)
-      → Handled s x i (onSpan formatTopLevelReservedWordNoIndent) st m d r p q
+  pub by-no-indent : (l : Levels) → Turned stacks (sp .«newline_before») false sp i l
+      → Laid (length d) (Query.topLevel (length d) (x .options) (sp .«newline_before») (l .out) word (sp .«newline_after») false (l .into) (textOf (st .text) d)) t q → r ≡ withIndentation st t (l .stacks)
+      → Handled s x i (given formatTopLevelReservedWordNoIndent sp) st d r q
   unfolding envOf stateOf when
-  by-no-indent l told laid y =
+  by-no-indent l told laid m =
       let b = sp .«newline_before» in
-      by-span formatTopLevelReservedWordNoIndent b false l (Query.topLevel (length d) (x .options) b (l .out) word (sp .«newline_after») false (l .into) (textOf (st .text) d)) told laid y
+      by-span formatTopLevelReservedWordNoIndent b false l (Query.topLevel (length d) (x .options) b (l .out) word (sp .«newline_after») false (l .into) (textOf (st .text) d)) told laid m
       (rw (out-is b false l told, into-is b false l told, noted-is b false l told, word-is s x i (ready .known) v ev k ek (length d), ready .known .options)
       (halves.top-level-no-indent (envIn s x (length d)) (hereIn s x i) now sp))
 
   pub by-newline-after : (last : TopLevel) (n : ℕ) (before : Bool) (l : Levels) → n ≡ length (wordOf s (x .base) i) → spanIn last ≡ previousTopLevelReserved stacks
-      → before ≡ newlineBefore (x .options .«max_inline_top_level») (spanIn last) n → Turned stacks before true sp i m l p
-      → Laid (length d) (Query.newlineAfter (length d) (x .options) before (l .out) word (l .six) (l .into) (textOf (st .text) d)) t q → r ≡ withIndentation st t (l .indentation)
-      → Handled s x i (onSpan formatNewlineAfterReservedWord) st m d r p q
+      → before ≡ newlineBefore (x .options .«max_inline_top_level») (spanIn last) n → Turned stacks before true sp i l
+      → Laid (length d) (Query.newlineAfter (length d) (x .options) before (l .out) word (l .six) (l .into) (textOf (st .text) d)) t q → r ≡ withIndentation st t (l .stacks)
+      → Handled s x i (given formatNewlineAfterReservedWord sp) st d r q
   unfolding envOf stateOf when
-  by-newline-after last n before l hn hl hb told laid y =
-      by-span formatNewlineAfterReservedWord before true l (Query.newlineAfter (length d) (x .options) before (l .out) word (l .six) (l .into) (textOf (st .text) d)) told laid y
+  by-newline-after last n before l hn hl hb told laid m =
+      by-span formatNewlineAfterReservedWord before true l (Query.newlineAfter (length d) (x .options) before (l .out) word (l .six) (l .into) (textOf (st .text) d)) told laid m
       (rw (out-is before true l told, six-is before true l told, into-is before true l told, noted-is before true l told, word-is s x i (ready .known) v ev k ek (length d), hb, hn, hl, ← last-top-level (wordOf s (x .base)) stacks, ready .known .options)
       (halves.newline-after (envIn s x (length d)) (hereIn s x i) now sp))

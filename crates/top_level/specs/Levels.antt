@@ -1,22 +1,13 @@
 -- The stacks around a word that starts a level.
 use mathlib.Core.Path.{_≡_}
 use mathlib.Core.Bool.{Bool, false}
-use mathlib.Core.List.{List}
 use Prim.Native.Nat.{ℕ, _≤_}
 use Rattle.rules.specs.declared.SpanInfo.{SpanInfo}
 use Rattle.rules.specs.InlineBlock.{full}
 use Rattle.rules.specs.Indentation.{Indentation, indentLevel, increaseTopLevel, decreaseTopLevel, setPreviousTopLevel}
-use Rattle.rules.specs.Tokens.{Here}
-use Rattle.rules.specs.Sheet.{Env}
-use Rattle.rules.specs.State.{State}
-use Rattle.rules.specs.Formatter.{spanInfo}
 use Rattle.indentation.specs.Of.{Stands}
-use Rattle.top_level.specs.declared.Levels.{Levels}
 use Rattle.rules.specs.Base.{when}
-
--- a handler that reads the word's span ahead
-abbrev pub onSpan : (Env → Here → SpanInfo → State → State) → Env → Here → State → State
-onSpan f e h s = f e h (spanInfo e h s) s
+use Rattle.top_level.specs.declared.Levels.{Levels}
 
 -- the stacks before the word, and after it
 abbrev pub outOf : {W : Type 0} → Bool → Indentation W → Indentation W
@@ -25,11 +16,11 @@ outOf before i = when before decreaseTopLevel i
 abbrev pub intoOf : {W : Type 0} → Bool → Bool → SpanInfo → Indentation W → Indentation W
 intoOf before after sp i = when after (increaseTopLevel sp) (outOf before i)
 
--- the word is n; m is the memory before, q after
-pub record Turned (i : Indentation ℕ) (before after : Bool) (sp : SpanInfo) (n : ℕ) (m : List ℕ) (r : Levels) (q : List ℕ) : Type 0 where
+-- the word is n
+pub record Turned (i : Indentation ℕ) (before after : Bool) (sp : SpanInfo) (n : ℕ) (r : Levels) : Type 0 where
   pub out : r .out ≡ indentLevel false (outOf before i)
   pub out-low : r .out ≤ 128
   pub six : r .six ≡ full (outOf before i .indentTypes)
   pub into : r .into ≡ indentLevel false (intoOf before after sp i)
   pub into-low : r .into ≤ 128
-  pub stands : Stands (setPreviousTopLevel n sp (intoOf before after sp i)) m (r .indentation) q
+  pub stands : Stands (setPreviousTopLevel n sp (intoOf before after sp i)) (r .stacks)

@@ -7,8 +7,7 @@ use lib.ListN.{length}
 use Rattle.rules.specs.declared.SpanInfo.{SpanInfo}
 use Rattle.rules.specs.Base.{orZero}
 use Rattle.rules.specs.Text.{append, isLower}
-use lib.Dec.{leb, ltb}
-use Rattle.inline_block.proofs.Laws.{active-is}
+use lib.Dec.{leb}
 use Rattle.rules.specs.Sheet.{envOf}
 use Rattle.rules.specs.State.{State}
 use Rattle.rules.specs.Indentation.{Indentation, noIndentation, indentLevel, previousReserved, previousTopLevelReserved}
@@ -18,7 +17,7 @@ use Rattle.ascii.specs.Part.{part as bytes}
 use Rattle.text.specs.Held.{textOf, Laid}
 use Rattle.text.specs.declared.Text.{Text as CodeText}
 use Rattle.indentation.specs.Of.{indentationOf, wordIn, spanIn, Stands}
-use Rattle.indentation.specs.declared.Indentation.{Indentation as Counts}
+use Rattle.indentation.specs.declared.Indentation.{Indentation as Stacks}
 use Rattle.inline_block.specs.Of.{inlineBlockOf}
 use Rattle.query.specs.Query
 use Rattle.query.specs.declared.Value.{Value}
@@ -37,45 +36,45 @@ use Rattle.state.proofs.Laws.{by-value, by-halves, level-is, value-is}
 use Rattle.values.specs.Comma.{limitIn, breaksIn}
 use Rattle.values.specs.On.{onValue}
 
-module _ (s : List ℕ) (x : Context) (i : ℕ) (st : Code) (m d : List ℕ) (ready : Ready s x i st m d) (v : Value) (e : v ≡ valueIn s x i) (t : CodeText) (r : Code) (q : List ℕ) where
+module _ (s : List ℕ) (x : Context) (i : ℕ) (st : Code) (d : List ℕ) (ready : Ready s x i st d) (v : Value) (e : v ≡ valueIn s x i) (t : CodeText) (r : Code) (q : List ℕ) where
   abbrev now : State
-  now = stateOf s (x .base) st m d
+  now = stateOf s (x .base) st d
 
-  pub by-no-change : Laid (length d) (append (length d) (bytes s (v .start) (v .len)) (textOf (st .text) d)) t q → r ≡ withText st t → Handled s x i formatNoChange st m d r m q
+  pub by-no-change : Laid (length d) (append (length d) (bytes s (v .start) (v .len)) (textOf (st .text) d)) t q → r ≡ withText st t → Handled s x i formatNoChange st d r q
   unfolding envOf
-  by-no-change laid y = by-value s x i formatNoChange st m d ready (append (length d)) v t r q e laid y (halves.no-change (envIn s x (length d)) (hereIn s x i) now)
+  by-no-change laid m = by-value s x i formatNoChange st d ready (append (length d)) v t r q e laid m (halves.no-change (envIn s x (length d)) (hereIn s x i) now)
 
-  pub by-with-spaces : Laid (length d) (Query.withSpaces (length d) (bytes s (v .start) (v .len)) (textOf (st .text) d)) t q → r ≡ withText st t → Handled s x i (onValue formatWithSpaces) st m d r m q
+  pub by-with-spaces : Laid (length d) (Query.withSpaces (length d) (bytes s (v .start) (v .len)) (textOf (st .text) d)) t q → r ≡ withText st t → Handled s x i (onValue formatWithSpaces) st d r q
   unfolding envOf
-  by-with-spaces laid y = by-value s x i (onValue formatWithSpaces) st m d ready (Query.withSpaces (length d)) v t r q e laid y (halves.with-spaces (envIn s x (length d)) (wordOf s (x .base) i) now)
+  by-with-spaces laid m = by-value s x i (onValue formatWithSpaces) st d ready (Query.withSpaces (length d)) v t r q e laid m (halves.with-spaces (envIn s x (length d)) (wordOf s (x .base) i) now)
 
-  pub by-with-space-after : Laid (length d) (Query.withSpaceAfter (length d) (bytes s (v .start) (v .len)) (textOf (st .text) d)) t q → r ≡ withText st t → Handled s x i (onValue formatWithSpaceAfter) st m d r m q
+  pub by-with-space-after : Laid (length d) (Query.withSpaceAfter (length d) (bytes s (v .start) (v .len)) (textOf (st .text) d)) t q → r ≡ withText st t → Handled s x i (onValue formatWithSpaceAfter) st d r q
   unfolding envOf
-  by-with-space-after laid y = by-value s x i (onValue formatWithSpaceAfter) st m d ready (Query.withSpaceAfter (length d)) v t r q e laid y (halves.with-space-after (envIn s x (length d)) (wordOf s (x .base) i) now)
+  by-with-space-after laid m = by-value s x i (onValue formatWithSpaceAfter) st d ready (Query.withSpaceAfter (length d)) v t r q e laid m (halves.with-space-after (envIn s x (length d)) (wordOf s (x .base) i) now)
 
-  pub by-without-spaces : Laid (length d) (Query.withoutSpaces (length d) (bytes s (v .start) (v .len)) (textOf (st .text) d)) t q → r ≡ withText st t → Handled s x i (onValue formatWithoutSpaces) st m d r m q
+  pub by-without-spaces : Laid (length d) (Query.withoutSpaces (length d) (bytes s (v .start) (v .len)) (textOf (st .text) d)) t q → r ≡ withText st t → Handled s x i (onValue formatWithoutSpaces) st d r q
   unfolding envOf
-  by-without-spaces laid y = by-value s x i (onValue formatWithoutSpaces) st m d ready (Query.withoutSpaces (length d)) v t r q e laid y (halves.without-spaces (envIn s x (length d)) (wordOf s (x .base) i) now)
+  by-without-spaces laid m = by-value s x i (onValue formatWithoutSpaces) st d ready (Query.withoutSpaces (length d)) v t r q e laid m (halves.without-spaces (envIn s x (length d)) (wordOf s (x .base) i) now)
 
-  pub by-separator : (c : Counts) (n : List ℕ) → Laid (length d) (Query.separator (length d) (bytes s (v .start) (v .len)) (x .options .«lines_between_queries») (textOf (st .text) d)) t q → Stands noIndentation m c n → r ≡ withIndentation st t c
-      → Handled s x i (onValue formatQuerySeparator) st m d r n q
+  pub by-separator : (n : Stacks) → Laid (length d) (Query.separator (length d) (bytes s (v .start) (v .len)) (x .options .«lines_between_queries») (textOf (st .text) d)) t q → Stands noIndentation n → r ≡ withIndentation st t n
+      → Handled s x i (onValue formatQuerySeparator) st d r q
   unfolding envOf stateOf
-  by-separator c n laid stands y =
-      rw y (by-halves s x i (onValue formatQuerySeparator) st m d ready (Query.separator (length d) (wordOf s (x .base) i) (x .options .«lines_between_queries») (textOf (st .text) d)) noIndentation t c n q
+  by-separator n laid stands m =
+      rw m (by-halves s x i (onValue formatQuerySeparator) st d ready (Query.separator (length d) (wordOf s (x .base) i) (x .options .«lines_between_queries») (textOf (st .text) d)) noIndentation t n q
       (rw (value-is s x i v e) at laid) stands (none-below (i + 1)) (rw (none-words, ready .known .options) (halves.separator (envIn s x (length d)) (wordOf s (x .base) i) now)))
 
   -- ---- a comma
 
-  comma-breaks : (b : Bool) → b ≡ breaksIn s x (isActive (inlineBlockOf (st .«inline_block») m)) (indentationOf (st .indentation) m) → b ≡ commaBreaks (envIn s x (length d)) now
+  comma-breaks : (b : Bool) → b ≡ breaksIn s x (isActive (inlineBlockOf (st .«inline_block»))) (indentationOf (st .indentation)) → b ≡ commaBreaks (envIn s x (length d)) now
   unfolding breaksIn limitIn commaBreaks stateOf envOf
   comma-breaks b h = h ∙ rw (ready .known .options, last-reserved, last-top-level)
 
-  pub by-comma : (active b : Bool) (level : ℕ) → active ≡ ltb 0 (st .«inline_block» .level) → b ≡ breaksIn s x active (indentationOf (st .indentation) m) → level ≡ indentLevel false (indentationOf (st .indentation) m)
-      → Laid (length d) (Query.comma (length d) (x .options) (bytes s (v .start) (v .len)) b level (textOf (st .text) d)) t q → r ≡ withText st t → Handled s x i (onValue formatComma) st m d r m q
+  pub by-comma : (active b : Bool) (level : ℕ) → active ≡ isActive (inlineBlockOf (st .«inline_block»)) → b ≡ breaksIn s x active (indentationOf (st .indentation)) → level ≡ indentLevel false (indentationOf (st .indentation))
+      → Laid (length d) (Query.comma (length d) (x .options) (bytes s (v .start) (v .len)) b level (textOf (st .text) d)) t q → r ≡ withText st t → Handled s x i (onValue formatComma) st d r q
   unfolding envOf
-  by-comma active b level ha hb hl laid y =
-      by-value s x i (onValue formatComma) st m d ready (λ w. Query.comma (length d) (x .options) w b level) v t r q e laid y
-      (rw (ready .known .options, comma-breaks b (hb ∙ rw (ha, active-is (st .«inline_block») m)), hl ∙ sym (level-is s (x .base) st m d false)) (halves.comma (envIn s x (length d)) (wordOf s (x .base) i) now))
+  by-comma active b level ha hb hl laid m =
+      by-value s x i (onValue formatComma) st d ready (λ w. Query.comma (length d) (x .options) w b level) v t r q e laid m
+      (rw (ready .known .options, comma-breaks b (hb ∙ rw ha), hl ∙ sym (level-is s (x .base) st d false)) (halves.comma (envIn s x (length d)) (wordOf s (x .base) i) now))
 
 -- ---- the tests of a comma
 

@@ -29,7 +29,7 @@ use Rattle.state.specs.Of.{wordOf, stateOf, Ready, envIn, hereIn, Handled}
 use Rattle.state.specs.Below.{below-up}
 use Rattle.values.specs.On.{onToken, placed, withIndex}
 
-module _ (s : List ℕ) (x : Context) (i : ℕ) (st : Code) (m d : List ℕ) (ready : Ready s x i st m d) where
+module _ (s : List ℕ) (x : Context) (i : ℕ) (st : Code) (d : List ℕ) (ready : Ready s x i st d) where
   abbrev c : Counts
   c = x .counts
 
@@ -46,9 +46,9 @@ module _ (s : List ℕ) (x : Context) (i : ℕ) (st : Code) (m d : List ℕ) (re
     pub key-known : KeyIn s (bodyAt c) (k .key)
     key-known = key-in s c k i (ready .known .sheeted) (ready .here) e
 
-    module _ (shown : Shown) (sh : shown ≡ shownOf s c k (st .index)) where
+    module _ (shown : Shown) (m : shown ≡ shownOf s c k (st .index)) where
       inside : x .base + (shown .place .start + shown .place .len) ≤ length s
-      inside = rw (ready .known .base) (shown-inside s c k (st .index) shown sh (ready .known .sheeted) (value-in s c k i (ready .known .sheeted) (ready .here) e) .inside)
+      inside = rw (ready .known .base) (shown-inside s c k (st .index) shown m (ready .known .sheeted) (value-in s c k i (ready .known .sheeted) (ready .here) e) .inside)
 
       pub start-small : x .base + shown .place .start ≤ 65536
       start-small = let f = sheeted-readable s c (ready .known .sheeted) .short in let h = inside in omega arith
@@ -61,13 +61,13 @@ module _ (s : List ℕ) (x : Context) (i : ℕ) (st : Code) (m d : List ℕ) (re
 
         shows : bytes s (v .start) (v .len) ≡ get (paramsOf s c) (keyRead s (x .base) (tokenAt s i .key)) (st .index) (wordOf s (x .base) i)
         unfolding part
-        shows = rw (w, ← e, ready .known .base) (shown-bytes s c k (st .index) shown sh key-known)
+        shows = rw (w, ← e, ready .known .base) (shown-bytes s c k (st .index) shown m key-known)
 
         moves : shown .index ≡ (if advances (paramsOf s c) (keyRead s (x .base) (tokenAt s i .key)) then suc (st .index) else st .index)
-        moves = rw (← e, ready .known .base) (rw add-one at (shown-index s c k (st .index) shown sh))
+        moves = rw (← e, ready .known .base) (rw add-one at (shown-index s c k (st .index) shown m))
 
         pub by-placeholder : (five : Bool) (t : CodeText) (r : Code) (q : List ℕ) → ((c : Counts) → five ≡ offends (paramsOf s c) (keyRead s (bodyAt c) (k .key)))
-            → Laid (length d) (Query.placeholder (length d) five (bytes s (v .start) (v .len)) (textOf (st .text) d)) t q → r ≡ withIndex st t (shown .index) → Handled s x i (onToken formatPlaceholder) st m d r m q
+            → Laid (length d) (Query.placeholder (length d) five (bytes s (v .start) (v .len)) (textOf (st .text) d)) t q → r ≡ withIndex st t (shown .index) → Handled s x i (onToken formatPlaceholder) st d r q
         unfolding stateOf envOf
         by-placeholder five t r q o laid n =
             let a = ready .steady in
@@ -75,6 +75,6 @@ module _ (s : List ℕ) (x : Context) (i : ℕ) (st : Code) (m d : List ℕ) (re
             let offence : five ≡ offends (paramsOf s c) (keyRead s (x .base) (tokenAt s i .key)) = rw (← e, ready .known .base) (o c) in
             rw n (record {
               room = laid .room;
-              steady = record { held = laid .held; stacks = a .stacks; words = below-up (omega arith) (a .words); inlined = a .inlined; level = omega arith; index = shown-step s c k (st .index) shown sh i (a .index) };
-              state = rw (laid .text, offence, shows, moves) (sym (halves.placeholder (envIn s x (length d)) (hereIn s x i) (stateOf s (x .base) st m d)));
+              steady = record { held = laid .held; stacks = a .stacks; words = below-up (omega arith) (a .words); inlined = a .inlined; level = omega arith; index = shown-step s c k (st .index) shown m i (a .index) };
+              state = rw (laid .text, offence, shows, moves) (sym (halves.placeholder (envIn s x (length d)) (hereIn s x i) (stateOf s (x .base) st d)));
             })

@@ -1,13 +1,18 @@
 -- What a handler reads of its token, and what a placeholder makes of the state.
+use mathlib.Core.Bool.{Bool}
 use mathlib.Core.List.{List}
 use Prim.Native.Nat.{ℕ, _+_}
 use Rattle.rules.specs.declared.Place.{Place}
+use Rattle.rules.specs.Base.{same}
+use Rattle.rules.specs.Bytes.{bytes}
 use Rattle.rules.specs.Tokens.{Token, Here}
 use Rattle.rules.specs.Sheet.{Env}
 use Rattle.rules.specs.State.{State}
 use Rattle.query.specs.declared.Value.{Value}
 use Rattle.text.specs.declared.Text.{Text}
 use Rattle.state.specs.declared.State.{State as Code}
+use Rattle.state.specs.declared.Context.{Context}
+use Rattle.state.specs.Of.{wordOf}
 
 -- a handler that reads the token's value alone
 abbrev pub onValue : (Env → List ℕ → State → State) → Env → Here → State → State
@@ -23,3 +28,7 @@ placed base p = record { start = base + p .start; len = p .len }
 
 abbrev pub withIndex : Code → Text → ℕ → Code
 withIndex st t n = record { text = t; indentation = st .indentation; «inline_block» = st .«inline_block»; «block_level» = st .«block_level»; index = n }
+
+-- the token is a query separator
+abbrev pub separates : List ℕ → Context → ℕ → Bool
+separates s x i = same (wordOf s (x .base) i) (bytes ";")

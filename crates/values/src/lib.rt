@@ -1,13 +1,14 @@
-// Handlers that go by a token's value: signs, placeholders, and what has no rule of its own. They leave the stacks as they are, but for `;`.
+// Handlers that go by a token's value: signs, placeholders, and what has no rule of its own. They leave the stacks as they are, but for `;`, and then give the text alone.
 ghost use mathlib.Core.Path.{_≡_};
+ghost use mathlib.Core.Bool.{false};
 ghost use Prim.Native.Nat.{_+_, _≤_};
 ghost use Rattle.rules.specs.Base.{orZero};
 ghost use Rattle.rules.specs.Formatter.{formatNoChange, formatWithSpaces, formatWithSpaceAfter, formatWithoutSpaces, formatComma, formatQuerySeparator, formatPlaceholder, formatByValue, spanWithin};
 ghost use Rattle.indentation.specs.Of.{wordIn, spanIn, indentationOf, Clean};
-ghost use Rattle.state.specs.Of.{Known, Ready, Handled};
+ghost use Rattle.state.specs.Of.{Known, Ready, Handled, withText};
 ghost use Rattle.state.specs.Below.{WordBelow, Below};
 ghost use Rattle.values.specs.Comma.{limitIn, breaksIn};
-ghost use Rattle.values.specs.On.{onValue, onToken, placed, withIndex};
+ghost use Rattle.values.specs.On.{onValue, onToken, placed, withIndex, separates};
 use around::is_byte;
 use indentation::Indentation;
 use indentation::TopLevel;
@@ -22,72 +23,46 @@ use text::Text;
 use tokens::to_usize;
 use tokens::token_at;
 
-pub fn format_no_change(
-    query: &mut [u8],
-    stacks: &[u32],
-    s: State,
-    sheet: &[u8],
-    x: Context,
-    i: usize,
-) -> State
-    requires { ⌜ Ready (now sheet) x i s (now stacks) (now query) ⌝ }
-    ensures { λ r. ⌜ Handled (now (sheet .entry)) x i formatNoChange s (now (stacks .entry)) (now (query .entry)) r (now (stacks .entry)) (now (query .exit)) ⌝ }
+pub fn format_no_change(query: &mut [u8], s: State, sheet: &[u8], x: Context, i: usize) -> Text
+    requires { ⌜ Ready (now sheet) x i s (now query) ⌝ }
+    ensures { λ r. ⌜ Handled (now (sheet .entry)) x i formatNoChange s (now (query .entry)) (withText s r) (now (query .exit)) ⌝ }
 {
     let v = value_of(sheet, x, i);
     let t = s.text;
-    let u = query::format_no_change(query, t, sheet, v);
-    s.with_text(u)
+    query::format_no_change(query, t, sheet, v)
 }
 
-pub fn format_with_spaces(
-    query: &mut [u8],
-    stacks: &[u32],
-    s: State,
-    sheet: &[u8],
-    x: Context,
-    i: usize,
-) -> State
-    requires { ⌜ Ready (now sheet) x i s (now stacks) (now query) ⌝ }
-    ensures { λ r. ⌜ Handled (now (sheet .entry)) x i (onValue formatWithSpaces) s (now (stacks .entry)) (now (query .entry)) r (now (stacks .entry)) (now (query .exit)) ⌝ }
+pub fn format_with_spaces(query: &mut [u8], s: State, sheet: &[u8], x: Context, i: usize) -> Text
+    requires { ⌜ Ready (now sheet) x i s (now query) ⌝ }
+    ensures { λ r. ⌜ Handled (now (sheet .entry)) x i (onValue formatWithSpaces) s (now (query .entry)) (withText s r) (now (query .exit)) ⌝ }
 {
     let v = value_of(sheet, x, i);
     let t = s.text;
-    let u = query::format_with_spaces(query, t, sheet, v);
-    s.with_text(u)
+    query::format_with_spaces(query, t, sheet, v)
 }
 
 pub fn format_with_space_after(
     query: &mut [u8],
-    stacks: &[u32],
     s: State,
     sheet: &[u8],
     x: Context,
     i: usize,
-) -> State
-    requires { ⌜ Ready (now sheet) x i s (now stacks) (now query) ⌝ }
-    ensures { λ r. ⌜ Handled (now (sheet .entry)) x i (onValue formatWithSpaceAfter) s (now (stacks .entry)) (now (query .entry)) r (now (stacks .entry)) (now (query .exit)) ⌝ }
+) -> Text
+    requires { ⌜ Ready (now sheet) x i s (now query) ⌝ }
+    ensures { λ r. ⌜ Handled (now (sheet .entry)) x i (onValue formatWithSpaceAfter) s (now (query .entry)) (withText s r) (now (query .exit)) ⌝ }
 {
     let v = value_of(sheet, x, i);
     let t = s.text;
-    let u = query::format_with_space_after(query, t, sheet, v);
-    s.with_text(u)
+    query::format_with_space_after(query, t, sheet, v)
 }
 
-pub fn format_without_spaces(
-    query: &mut [u8],
-    stacks: &[u32],
-    s: State,
-    sheet: &[u8],
-    x: Context,
-    i: usize,
-) -> State
-    requires { ⌜ Ready (now sheet) x i s (now stacks) (now query) ⌝ }
-    ensures { λ r. ⌜ Handled (now (sheet .entry)) x i (onValue formatWithoutSpaces) s (now (stacks .entry)) (now (query .entry)) r (now (stacks .entry)) (now (query .exit)) ⌝ }
+pub fn format_without_spaces(query: &mut [u8], s: State, sheet: &[u8], x: Context, i: usize) -> Text
+    requires { ⌜ Ready (now sheet) x i s (now query) ⌝ }
+    ensures { λ r. ⌜ Handled (now (sheet .entry)) x i (onValue formatWithoutSpaces) s (now (query .entry)) (withText s r) (now (query .exit)) ⌝ }
 {
     let v = value_of(sheet, x, i);
     let t = s.text;
-    let u = query::format_without_spaces(query, t, sheet, v);
-    s.with_text(u)
+    query::format_without_spaces(query, t, sheet, v)
 }
 
 // ---- a comma
@@ -124,50 +99,34 @@ fn span_within(most: u32, last: TopLevel) -> bool
     }
 }
 
-fn comma_breaks(
-    sheet: &[u8],
-    x: Context,
-    active: bool,
-    stacks: &[u32],
-    indentation: Indentation,
-) -> bool
-    requires { ⌜ (Known (now sheet) x) × (Clean indentation (now stacks)) × (Below (x .counts .tokens) (indentationOf indentation (now stacks))) ⌝ }
-    ensures { λ r. ⌜ r ≡ breaksIn (now (sheet .entry)) x active (indentationOf indentation (now (stacks .entry))) ⌝ }
+fn comma_breaks(sheet: &[u8], x: Context, active: bool, stacks: Indentation) -> bool
+    requires { ⌜ (Known (now sheet) x) × (Clean stacks) × (Below (x .counts .tokens) (indentationOf stacks)) ⌝ }
+    ensures { λ r. ⌜ r ≡ breaksIn (now (sheet .entry)) x active (indentationOf stacks) ⌝ }
 {
     if active {
         return false;
     }
-    if is_limit(sheet, x, indentation.previous_reserved(stacks)) {
+    let last = stacks.previous_words();
+    if is_limit(sheet, x, last.reserved()) {
         return false;
     }
     let o = x.options;
     let limit = o.max_inline_arguments;
-    !span_within(
-        or_zero(limit),
-        indentation.previous_top_level_reserved(stacks),
-    )
+    !span_within(or_zero(limit), last.top_level_reserved())
 }
 
-pub fn format_comma(
-    query: &mut [u8],
-    stacks: &[u32],
-    s: State,
-    sheet: &[u8],
-    x: Context,
-    i: usize,
-) -> State
-    requires { ⌜ Ready (now sheet) x i s (now stacks) (now query) ⌝ }
-    ensures { λ r. ⌜ Handled (now (sheet .entry)) x i (onValue formatComma) s (now (stacks .entry)) (now (query .entry)) r (now (stacks .entry)) (now (query .exit)) ⌝ }
+pub fn format_comma(query: &mut [u8], s: State, sheet: &[u8], x: Context, i: usize) -> Text
+    requires { ⌜ Ready (now sheet) x i s (now query) ⌝ }
+    ensures { λ r. ⌜ Handled (now (sheet .entry)) x i (onValue formatComma) s (now (query .entry)) (withText s r) (now (query .exit)) ⌝ }
 {
     let v = value_of(sheet, x, i);
     let inline = s.inline_block;
-    let indentation = s.indentation;
-    let breaks = comma_breaks(sheet, x, inline.is_active(), stacks, indentation);
-    let level = indentation.indent_level(stacks, false);
+    let stacks = s.indentation;
+    let breaks = comma_breaks(sheet, x, inline.is_active(), stacks);
+    let level = stacks.indent_level(false);
     let t = s.text;
     let o = x.options;
-    let u = query::format_comma(query, t, sheet, v, o, breaks, level);
-    s.with_text(u)
+    query::format_comma(query, t, sheet, v, o, breaks, level)
 }
 
 // ---- a query separator
@@ -175,21 +134,20 @@ pub fn format_comma(
 // The next query starts with no indent and no previous word.
 pub fn format_query_separator(
     query: &mut [u8],
-    stacks: &mut [u32],
     s: State,
     sheet: &[u8],
     x: Context,
     i: usize,
 ) -> State
-    requires { ⌜ Ready (now sheet) x i s (now stacks) (now query) ⌝ }
-    ensures { λ r. ⌜ Handled (now (sheet .entry)) x i (onValue formatQuerySeparator) s (now (stacks .entry)) (now (query .entry)) r (now (stacks .exit)) (now (query .exit)) ⌝ }
+    requires { ⌜ Ready (now sheet) x i s (now query) ⌝ }
+    ensures { λ r. ⌜ Handled (now (sheet .entry)) x i (onValue formatQuerySeparator) s (now (query .entry)) r (now (query .exit)) ⌝ }
 {
     let v = value_of(sheet, x, i);
-    let indentation = s.indentation;
+    let stacks = s.indentation;
     let t = s.text;
     let o = x.options;
     let u = query::format_query_separator(query, t, sheet, v, o.lines_between_queries);
-    s.with_indentation(u, indentation.reset_indentation(stacks))
+    s.with_indentation(u, stacks.reset_indentation())
 }
 
 // ---- a placeholder
@@ -213,16 +171,9 @@ fn with_index(mut s: State, t: Text, index: u32) -> State
     s
 }
 
-pub fn format_placeholder(
-    query: &mut [u8],
-    stacks: &[u32],
-    s: State,
-    sheet: &[u8],
-    x: Context,
-    i: usize,
-) -> State
-    requires { ⌜ Ready (now sheet) x i s (now stacks) (now query) ⌝ }
-    ensures { λ r. ⌜ Handled (now (sheet .entry)) x i (onToken formatPlaceholder) s (now (stacks .entry)) (now (query .entry)) r (now (stacks .entry)) (now (query .exit)) ⌝ }
+pub fn format_placeholder(query: &mut [u8], s: State, sheet: &[u8], x: Context, i: usize) -> State
+    requires { ⌜ Ready (now sheet) x i s (now query) ⌝ }
+    ensures { λ r. ⌜ Handled (now (sheet .entry)) x i (onToken formatPlaceholder) s (now (query .entry)) r (now (query .exit)) ⌝ }
 {
     let token = token_at(sheet, i);
     let c = x.counts;
@@ -237,29 +188,20 @@ pub fn format_placeholder(
 
 // ---- by the value
 
-// Strings, operators, numbers, words and joins: a sign is told by its value, whatever its kind.
-pub fn format_by_value(
-    query: &mut [u8],
-    stacks: &mut [u32],
-    s: State,
-    sheet: &[u8],
-    x: Context,
-    i: usize,
-) -> State
-    requires { ⌜ Ready (now sheet) x i s (now stacks) (now query) ⌝ }
-    ensures { λ r. ⌜ Handled (now (sheet .entry)) x i (onValue formatByValue) s (now (stacks .entry)) (now (query .entry)) r (now (stacks .exit)) (now (query .exit)) ⌝ }
+// Strings, operators, numbers, words and joins: a sign is told by its value, whatever its kind. A query separator is another handler's.
+pub fn format_by_value(query: &mut [u8], s: State, sheet: &[u8], x: Context, i: usize) -> Text
+    requires { ⌜ Ready (now sheet) x i s (now query) ⌝ }
+    requires { ⌜ separates (now sheet) x i ≡ false ⌝ }
+    ensures { λ r. ⌜ Handled (now (sheet .entry)) x i (onValue formatByValue) s (now (query .entry)) (withText s r) (now (query .exit)) ⌝ }
 {
     if is_byte(sheet, x.base, i, b',') {
-        return format_comma(query, stacks, s, sheet, x, i);
+        return format_comma(query, s, sheet, x, i);
     }
     if is_byte(sheet, x.base, i, b':') {
-        return format_with_space_after(query, stacks, s, sheet, x, i);
+        return format_with_space_after(query, s, sheet, x, i);
     }
     if is_byte(sheet, x.base, i, b'.') {
-        return format_without_spaces(query, stacks, s, sheet, x, i);
+        return format_without_spaces(query, s, sheet, x, i);
     }
-    if is_byte(sheet, x.base, i, b';') {
-        return format_query_separator(query, stacks, s, sheet, x, i);
-    }
-    format_with_spaces(query, stacks, s, sheet, x, i)
+    format_with_spaces(query, s, sheet, x, i)
 }

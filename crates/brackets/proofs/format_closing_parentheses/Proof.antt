@@ -1,5 +1,5 @@
 use denote.Ref.{now}
-use Rattle.brackets.proofs.ClosingLaws.{end-clean, by-closing}
+use Rattle.brackets.proofs.ClosingLaws.{by-closing}
 use borrow.Author.Needs.{needs}
 use Rattle.brackets.proofs.format_closing_parentheses.Statement.{statement}
 use Rattle.brackets.proofs.format_closing_parentheses.Tie as tie
@@ -20,10 +20,7 @@ push-closing-requires : tie.Need-push-closing-requires
 push-closing-requires c κs = search needs
 
 end-requires : tie.Need-end-requires
-end-requires c κs =
-    let shut = c .before .before .before .before .before .before .before .before .before .before .before .before .before .before in
-    let start = shut .before .before .before .before .before .before .before .before in
-    end-clean (now (start .args .sheet)) (start .args .x) (start .args .i) (start .args .s) _ _ (start .pre) _ _ (shut .decrease-block-level .ensures)
+end-requires c κs = search needs
 
 less-requires : tie.Need-less-requires
 less-requires c κs = search needs
@@ -31,16 +28,12 @@ less-requires c κs = search needs
 same-length : tie.Need-same-length
 same-length c = search needs
 
-same-length-2 : tie.Need-same-length-2
-same-length-2 c = search needs
-
 returns : tie.Need-returns
 returns c =
-    let pushed = c .before .before .before .before .before .before .before in
-    let shut = pushed .before .before .before .before .before .before .before .before .before .before .before in
-    let start = shut .before .before .before .before .before .before .before .before in
-    by-closing (now (start .args .sheet)) (start .args .x) (start .args .i) (start .args .s) _ _ (start .pre) _ _ (shut .decrease-block-level .ensures) _ _ _ _ _ _ _ _
-    (pushed .before .before .before .before .before .before .ends-under .ensures) (pushed .before .before .before .before .indent-level .ensures .0) (pushed .before .before .before .is-active .ensures) (pushed .push-closing .ensures) (c .before .before .before .end .ensures) (c .less .ensures)
+    let start = c .before .before .before .before .before .before .before .before .before .before .before .before .before .before .before .before .before in
+    let at-level = c .before .before .before .before .before .before .before .before in
+    by-closing (now (start .args .sheet)) (start .args .x) (start .args .i) (start .args .s) _ (start .pre) _ _ _ _ _ _ _ _
+    (at-level .before .before .before .decrease-block-level .ensures) (at-level .before .ends-under .ensures) (at-level .indent-level .ensures .0) (c .before .before .before .before .before .before .before .is-active .ensures) (c .before .before .before .before .push-closing .ensures) (c .before .end .ensures) (c .less .ensures)
 
 pub format-closing-parentheses-spec : {M : Type 1} → statement M
 format-closing-parentheses-spec =
@@ -54,5 +47,4 @@ format-closing-parentheses-spec =
     end-requires
     less-requires
     same-length
-    same-length-2
     returns)

@@ -19,6 +19,9 @@ after-top-level-word-requires c κs = search (needs, known-readable)
 returns-3 : tie.Need-returns-3
 returns-3 c = search (needs, by-no-top)
 
+previous-top-level-reserved-requires : tie.Need-previous-top-level-reserved-requires
+previous-top-level-reserved-requires c κs = search needs
+
 folds-in-requires : tie.Need-folds-in-requires
 folds-in-requires c κs = search needs
 
@@ -34,5 +37,6 @@ is-folded-spec =
     returns-2
     after-top-level-word-requires
     returns-3
+    previous-top-level-reserved-requires
     folds-in-requires
     returns-4)

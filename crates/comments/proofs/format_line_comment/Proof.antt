@@ -1,10 +1,11 @@
-use borrow.Author.Needs.{needs}
-use Rattle.comments.proofs.format_line_comment.Statement.{statement}
-use Rattle.comments.proofs.format_line_comment.Tie as tie
+use mathlib.Core.Path.{refl}
 use denote.Ref.{now}
 use Rattle.state.proofs.Laws.{value-inside}
 use Rattle.state.proofs.Laws.{known-readable}
 use Rattle.comments.proofs.Laws.{by-line-comment}
+use borrow.Author.Needs.{needs}
+use Rattle.comments.proofs.format_line_comment.Statement.{statement}
+use Rattle.comments.proofs.format_line_comment.Tie as tie
 
 value-of-requires : tie.Need-value-of-requires
 value-of-requires c κs = search needs
@@ -21,17 +22,14 @@ indent-level-requires c κs = search needs
 format-line-comment-requires : tie.Need-format-line-comment-requires
 format-line-comment-requires c κs = search (needs, value-inside)
 
-with-text-requires : tie.Need-with-text-requires
-with-text-requires c κs = search needs
-
 same-length : tie.Need-same-length
 same-length c = search needs
 
 returns : tie.Need-returns
 returns c =
-    let start = c .before .before .before .before .before .before .before .before .before .before .before .before .before .before .before .before in
-    by-line-comment (now (start .args .sheet)) (start .args .x) (start .args .i) (start .args .s) (now (start .args .stacks)) _ (start .pre) _ (c .before .before .before .before .before .before .before .before .before .before .before .before .value-of .ensures) _ _ _ _ (c .before .before .before .before .before .before .before .indent-level .ensures .0) _ _
-    (c .before .before .before .before .before .before .before .before .before .before .before .breaks-before-comment .ensures) (c .before .before .before .before .before .before .before .before .before .two-after-comma .ensures) (c .before .before .before .format-line-comment .ensures) (c .with-text .ensures)
+    let start = c .before .before .before .before .before .before .before .before .before .before .before .before .before .before in
+    by-line-comment (now (start .args .sheet)) (start .args .x) (start .args .i) (start .args .s) _ (start .pre) _ (c .before .before .before .before .before .before .before .before .before .before .before .value-of .ensures) _ _ _ _ (c .before .before .before .before .before .before .indent-level .ensures .0) _ _
+    (c .before .before .before .before .before .before .before .before .before .before .breaks-before-comment .ensures) (c .before .before .before .before .before .before .before .before .two-after-comma .ensures) (c .before .before .format-line-comment .ensures) refl
 
 pub format-line-comment-spec : {M : Type 1} → statement M
 format-line-comment-spec =
@@ -42,6 +40,5 @@ format-line-comment-spec =
     two-after-comma-requires
     indent-level-requires
     format-line-comment-requires
-    with-text-requires
     same-length
     returns)

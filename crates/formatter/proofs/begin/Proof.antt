@@ -1,7 +1,7 @@
+use Rattle.formatter.proofs.Laws.{by-begun}
 use borrow.Author.Needs.{needs}
 use Rattle.formatter.proofs.begin.Statement.{statement}
 use Rattle.formatter.proofs.begin.Tie as tie
-use Rattle.formatter.proofs.Laws.{by-begun}
 
 begin-requires : tie.Need-begin-requires
 begin-requires c κs = search needs
@@ -12,9 +12,6 @@ new-requires c κs = search needs
 new-requires-2 : tie.Need-new-requires-2
 new-requires-2 c κs = search needs
 
-new-requires-3 : tie.Need-new-requires-3
-new-requires-3 c κs = search needs
-
 same-length : tie.Need-same-length
 same-length c = search needs
 
@@ -22,6 +19,4 @@ returns : tie.Need-returns
 returns c = search (needs, by-begun)
 
 pub begin-spec : {M : Type 1} → statement M
-begin-spec =
-    tie.close
-    (tie.spec begin-requires new-requires new-requires-2 new-requires-3 same-length returns)
+begin-spec = tie.close (tie.spec begin-requires new-requires new-requires-2 same-length returns)

@@ -1,57 +1,223 @@
 use Rattle.formatter.proofs.format.Statement.{statement}
 use Rattle.formatter.proofs.format.Tie as tie
+use Rattle.formatter.proofs.format.Reads as reads
+use Rattle.formatter.proofs.format.Lts as lts
+use Rattle.blocks.proofs.build_info.Reads as build-info-reads
+use Rattle.brackets.proofs.format_closing_parentheses.Reads as format-closing-parentheses-reads
+use Rattle.brackets.proofs.format_opening_parentheses.Reads as format-opening-parentheses-reads
+use Rattle.fmt_switch.proofs.Switch.after.Reads as after-reads
+use Rattle.fmt_switch.proofs.Switch.new.Reads as new-reads
+use Rattle.fmt_switch.proofs.Switch.turn_of.Reads as turn-of-reads
+use Rattle.formatter.proofs.begin.Reads as begin-reads
+use Rattle.formatter.proofs.changes.Reads as changes-reads
+use Rattle.formatter.proofs.finish.Reads as finish-reads
+use Rattle.formatter.proofs.span_info.Reads as span-info-reads
+use Rattle.formatter.proofs.text_taken_as.Reads as text-taken-as-reads
+use Rattle.inline_block.proofs.InlineBlock.cur_len.Reads as cur-len-reads
+use Rattle.reserved.proofs.format_newline_reserved_word.Reads as format-newline-reserved-word-reads
+use Rattle.reserved.proofs.format_reserved.Reads as format-reserved-reads
+use Rattle.state.proofs.value_of.Reads as value-of-reads
+use Rattle.tokens.proofs.kind_at.Reads as kind-at-reads
+use Rattle.top_level.proofs.format_newline_after_reserved_word.Reads as format-newline-after-reserved-word-reads
+use Rattle.top_level.proofs.format_top_level_reserved_word.Reads as format-top-level-reserved-word-reads
+use Rattle.top_level.proofs.format_top_level_reserved_word_no_indent.Reads as format-top-level-reserved-word-no-indent-reads
+use Rattle.values.proofs.format_placeholder.Reads as format-placeholder-reads
+use Rattle.values.proofs.format_query_separator.Reads as format-query-separator-reads
 use mathlib.Core.List.{[]}
+use mathlib.Core.Logic.{⊎-elim}
+use mathlib.Core.Path.{_≡_, sym, _∙_}
 use denote.Ref.{now}
 use borrow.Author.Needs.{needs}
-use mathlib.Core.Path.{_≡_}
 use Prim.Native.Nat.{_-_}
 use native.Mathlib.Omega.{arith}
 use lib.ListN.{length}
-use Rattle.formatter.specs.Run.{noStacks}
-use Rattle.formatter.proofs.Laws.{Running, run-starts, run-ready, run-goes, run-refused, run-zeros, run-reports, run-fills}
+use Rattle.state.proofs.Laws.{value-inside, known-readable}
+use Rattle.formatter.specs.Run.{Stepped}
+use Rattle.formatter.proofs.Laws.{by-step, Running, run-starts, run-ready, run-goes, run-refused, run-zeros, run-reports, run-fills}
+use Rattle.formatter.proofs.Arms.{by-top-level, by-no-indent, by-newline-after, by-newline, by-reserved, by-opening, by-closing, by-placeholder, by-separator}
 
 abbrev Inv-loop : tie.InvT-loop
-Inv-loop query₀ sheet x n g₀ stacks₀ i₀ query g stacks i = (length query ≡ length query₀) × Running sheet x (length query₀) i g stacks query
+Inv-loop query₀ sheet x n s₀ switch₀ i₀ query s switch i = (length query ≡ length query₀) × Running sheet x (length query₀) i s switch query
 
 abbrev μ-loop : tie.MeasureT-loop
-μ-loop query₀ sheet x n g₀ stacks₀ i₀ query g stacks i = n - i
+μ-loop query₀ sheet x n s₀ switch₀ i₀ query s switch i = n - i
 
 begin-requires : tie.Need-begin-requires Inv-loop μ-loop
 begin-requires c κs = search needs
 
+new-requires : tie.Need-new-requires Inv-loop μ-loop
+new-requires c κs = search needs
+
 loop-holds : tie.Need-loop-holds Inv-loop μ-loop
-unfolding noStacks
 loop-holds c = search (needs, run-starts)
 
-slice-aggregate-step : tie.Need-slice-aggregate-step Inv-loop μ-loop
-slice-aggregate-step c = search needs
+kind-at-requires : tie.Need-kind-at-requires Inv-loop μ-loop
+kind-at-requires c κs = search needs
 
-step-requires : tie.Need-step-requires Inv-loop μ-loop
-step-requires c κs = search (needs, run-ready)
+value-of-requires : tie.Need-value-of-requires Inv-loop μ-loop
+value-of-requires c κs = search needs
+
+turn-of-requires : tie.Need-turn-of-requires Inv-loop μ-loop
+turn-of-requires c κs = search (needs, value-inside)
+
+after-requires : tie.Need-after-requires Inv-loop μ-loop
+after-requires c κs = search needs
+
+changes-requires : tie.Need-changes-requires Inv-loop μ-loop
+changes-requires c κs = search needs
+
+enum-told : tie.Need-enum-told Inv-loop μ-loop
+enum-told c = search needs
+
+-- src/lib.rt:163:70
+cur-len-requires : tie.Need-cur-len-requires Inv-loop μ-loop
+cur-len-requires c κs = search needs
+
+-- src/lib.rt:163:25
+span-info-requires : tie.Need-span-info-requires Inv-loop μ-loop
+span-info-requires c κs = (c .before .before .before .before .before .before .before .before .before .before .before .before .before .before .before .before .before .before .before .before .pre, c .before .before .before .before .before .before .before .before .before .before .loop-test .taken, c .before .before .before .before .before .before .before .before .before .before .before .loop .inv .1 .steady .level)
+
+format-top-level-reserved-word-requires :
+    tie.Need-format-top-level-reserved-word-requires Inv-loop μ-loop
+format-top-level-reserved-word-requires c κs = run-ready _ _ _ _ _ _ _ (c .before .before .before .before .before .before .before .before .before .before .before .before .before .before .before .before .before .before .before .before .before .before .pre) (c .before .before .before .before .before .before .before .before .before .before .before .before .loop-test .taken) (c .before .before .before .before .before .before .before .before .before .before .before .before .before .loop .inv .1)
+
+enum-told-2 : tie.Need-enum-told-2 Inv-loop μ-loop
+enum-told-2 c = search needs
+
+-- src/lib.rt:168:70
+cur-len-requires-2 : tie.Need-cur-len-requires-2 Inv-loop μ-loop
+cur-len-requires-2 c κs = search needs
+
+-- src/lib.rt:168:25
+span-info-requires-2 : tie.Need-span-info-requires-2 Inv-loop μ-loop
+span-info-requires-2 c κs = (c .before .before .before .before .before .before .before .before .before .before .before .before .before .before .before .before .before .before .before .before .pre, c .before .before .before .before .before .before .before .before .before .before .loop-test .taken, c .before .before .before .before .before .before .before .before .before .before .before .loop .inv .1 .steady .level)
+
+format-top-level-reserved-word-no-indent-requires :
+    tie.Need-format-top-level-reserved-word-no-indent-requires Inv-loop μ-loop
+format-top-level-reserved-word-no-indent-requires c κs = run-ready _ _ _ _ _ _ _ (c .before .before .before .before .before .before .before .before .before .before .before .before .before .before .before .before .before .before .before .before .before .before .pre) (c .before .before .before .before .before .before .before .before .before .before .before .before .loop-test .taken) (c .before .before .before .before .before .before .before .before .before .before .before .before .before .loop .inv .1)
+
+enum-told-3 : tie.Need-enum-told-3 Inv-loop μ-loop
+enum-told-3 c = search needs
+
+-- src/lib.rt:173:70
+cur-len-requires-3 : tie.Need-cur-len-requires-3 Inv-loop μ-loop
+cur-len-requires-3 c κs = search needs
+
+-- src/lib.rt:173:25
+span-info-requires-3 : tie.Need-span-info-requires-3 Inv-loop μ-loop
+span-info-requires-3 c κs = (c .before .before .before .before .before .before .before .before .before .before .before .before .before .before .before .before .before .before .before .before .pre, c .before .before .before .before .before .before .before .before .before .before .loop-test .taken, c .before .before .before .before .before .before .before .before .before .before .before .loop .inv .1 .steady .level)
+
+format-newline-after-reserved-word-requires :
+    tie.Need-format-newline-after-reserved-word-requires Inv-loop μ-loop
+format-newline-after-reserved-word-requires c κs = run-ready _ _ _ _ _ _ _ (c .before .before .before .before .before .before .before .before .before .before .before .before .before .before .before .before .before .before .before .before .before .before .pre) (c .before .before .before .before .before .before .before .before .before .before .before .before .loop-test .taken) (c .before .before .before .before .before .before .before .before .before .before .before .before .before .loop .inv .1)
+
+enum-told-4 : tie.Need-enum-told-4 Inv-loop μ-loop
+enum-told-4 c = search needs
+
+format-newline-reserved-word-requires :
+    tie.Need-format-newline-reserved-word-requires Inv-loop μ-loop
+format-newline-reserved-word-requires c κs = run-ready _ _ _ _ _ _ _ (c .before .before .before .before .before .before .before .before .before .before .before .before .before .before .before .before .before .before .before .pre) (c .before .before .before .before .before .before .before .before .before .loop-test .taken) (c .before .before .before .before .before .before .before .before .before .before .loop .inv .1)
+
+enum-told-5 : tie.Need-enum-told-5 Inv-loop μ-loop
+enum-told-5 c = search needs
+
+format-reserved-requires : tie.Need-format-reserved-requires Inv-loop μ-loop
+format-reserved-requires c κs = run-ready _ _ _ _ _ _ _ (c .before .before .before .before .before .before .before .before .before .before .before .before .before .before .before .before .before .before .before .pre) (c .before .before .before .before .before .before .before .before .before .loop-test .taken) (c .before .before .before .before .before .before .before .before .before .before .loop .inv .1)
+
+enum-told-6 : tie.Need-enum-told-6 Inv-loop μ-loop
+enum-told-6 c = search needs
+
+-- src/lib.rt:183:25
+build-info-requires : tie.Need-build-info-requires Inv-loop μ-loop
+build-info-requires c κs = (known-readable _ _ (c .before .before .before .before .before .before .before .before .before .before .before .before .before .before .before .before .before .before .pre), c .before .before .before .before .before .before .before .before .loop-test .taken)
+
+format-opening-parentheses-requires : tie.Need-format-opening-parentheses-requires Inv-loop μ-loop
+format-opening-parentheses-requires c κs = run-ready _ _ _ _ _ _ _ (c .before .before .before .before .before .before .before .before .before .before .before .before .before .before .before .before .before .before .before .before .pre) (c .before .before .before .before .before .before .before .before .before .before .loop-test .taken) (c .before .before .before .before .before .before .before .before .before .before .before .loop .inv .1)
+
+enum-told-7 : tie.Need-enum-told-7 Inv-loop μ-loop
+enum-told-7 c = search needs
+
+format-closing-parentheses-requires : tie.Need-format-closing-parentheses-requires Inv-loop μ-loop
+format-closing-parentheses-requires c κs = run-ready _ _ _ _ _ _ _ (c .before .before .before .before .before .before .before .before .before .before .before .before .before .before .before .before .before .before .before .pre) (c .before .before .before .before .before .before .before .before .before .loop-test .taken) (c .before .before .before .before .before .before .before .before .before .before .loop .inv .1)
+
+enum-told-8 : tie.Need-enum-told-8 Inv-loop μ-loop
+enum-told-8 c = search needs
+
+format-placeholder-requires : tie.Need-format-placeholder-requires Inv-loop μ-loop
+format-placeholder-requires c κs = run-ready _ _ _ _ _ _ _ (c .before .before .before .before .before .before .before .before .before .before .before .before .before .before .before .before .before .before .before .pre) (c .before .before .before .before .before .before .before .before .before .loop-test .taken) (c .before .before .before .before .before .before .before .before .before .before .loop .inv .1)
+
+format-query-separator-requires : tie.Need-format-query-separator-requires Inv-loop μ-loop
+format-query-separator-requires c κs = run-ready _ _ _ _ _ _ _ (c .before .before .before .before .before .before .before .before .before .before .before .before .before .before .before .before .before .before .pre) (c .before .before .before .before .before .before .before .before .loop-test .taken) (c .before .before .before .before .before .before .before .before .before .loop .inv .1)
+
+text-taken-as-requires : tie.Need-text-taken-as-requires Inv-loop μ-loop
+text-taken-as-requires c κs = (run-ready _ _ _ _ _ _ _ (c .before .before .before .before .before .before .before .before .before .before .before .before .before .before .before .before .before .pre) (c .before .before .before .before .before .before .before .loop-test .taken) (c .before .before .before .before .before .before .before .before .loop .inv .1), (c .before .before .before .before .before .before .kind-at .ensures, sym (c .before .before .changes .ensures) ∙ c .before .if1 .left))
+
+-- the step, by whichever arm
+stepped : (j : tie.Joined1 Inv-loop μ-loop) → Stepped (now (j .before .before .before .before .before .before .before .before .before .before .before .before .before .before .before .before .args .sheet)) (j .before .before .before .before .before .before .before .before .before .before .before .before .before .before .before .before .args .x) (j .before .before .before .before .before .before .before .loop .i) (j .before .before .before .before .before .before .before .loop .s) (j .before .before .before .before .before .before .before .loop .switch) (j .before .before .before .before .before .before .before .loop .query) (j .if1 .s) (j .before .before .after .result) (j .if1 .query)
+stepped j =
+    let start = j .before .before .before .before .before .before .before .before .before .before .before .before .before .before .before .before in
+    let l = j .before .before .before .before .before .before .before .loop in
+    let ready = run-ready (now (start .args .sheet)) (start .args .x) _ (l .i) (l .s) (l .switch) (l .query) (start .pre) (j .before .before .before .before .before .before .loop-test .taken) (l .inv .1) in
+    let told = j .before .before .before .before .before .kind-at .ensures in
+    let eb = j .before .changes .ensures in
+    by-step _ _ _ _ _ _ _ _ _ _ _ _ (j .before .before .before .before .value-of .ensures) told (j .before .before .before .turn-of .ensures) (j .before .before .after .ensures)
+    (⊎-elim
+    (λ w. rw (w .10, w .11) (by-top-level _ _ _ _ _ ready _ told _ _ eb (w .0 .taken) _ _ _ _ (w .4 .ensures) (w .5 .ensures) (w .2 .given .1) (w .7 .ensures)))
+    (⊎-elim
+    (λ w. rw (w .10, w .11) (by-no-indent _ _ _ _ _ ready _ told _ _ eb (w .0 .taken) _ _ _ _ (w .4 .ensures) (w .5 .ensures) (w .2 .given .1) (w .7 .ensures)))
+    (⊎-elim
+    (λ w. rw (w .10, w .11) (by-newline-after _ _ _ _ _ ready _ told _ _ eb (w .0 .taken) _ _ _ _ (w .4 .ensures) (w .5 .ensures) (w .2 .given .1) (w .7 .ensures)))
+    (⊎-elim
+    (λ w. rw (w .7, w .8) (by-newline _ _ _ _ _ ready _ told _ _ eb (w .0 .taken) _ _ (w .2 .given .1) (w .4 .ensures)))
+    (⊎-elim
+    (λ w. rw (w .7, w .8) (by-reserved _ _ _ _ _ ready _ told _ _ eb (w .0 .taken) _ _ (w .2 .given .1) (w .4 .ensures)))
+    (⊎-elim
+    (λ w. rw (w .8, w .9) (by-opening _ _ _ _ _ ready _ told _ _ eb (w .0 .taken) _ _ _ (w .3 .ensures) (w .2 .given .1) (w .5 .ensures)))
+    (⊎-elim
+    (λ w. rw (w .7, w .8) (by-closing _ _ _ _ _ ready _ told _ _ eb (w .0 .taken) _ _ (w .2 .given .1) (w .4 .ensures)))
+    (⊎-elim
+    (λ w. rw (w .7, w .8) (by-placeholder _ _ _ _ _ ready _ told _ _ eb (w .0 .taken) _ _ (w .2 .given .1) (w .4 .ensures)))
+    (⊎-elim
+    (λ w. rw (w .6, w .7) (by-separator _ _ _ _ _ ready _ told _ _ eb (w .0 .taken) _ _ (w .1 .keys9) (w .3 .ensures)))
+    (λ w. rw (w .5, w .6) (w .2 .ensures))))))))))
+    (j .if1 .came))
 
 same-length : tie.Need-same-length Inv-loop μ-loop
-same-length c = search needs
+same-length c =
+    let j = c .before .before .before in
+    stepped j .taken .room ∙ j .before .before .before .before .before .before .before .loop .inv .0 ∙ j .before .before .before .before .before .before .before .before .before .before .before .begin .ensures .room
 
 returns : tie.Need-returns Inv-loop μ-loop
 returns c =
-    let l = c .before .before .before .before .before .before .before .before .before .before .before .loop in
-    let start = c .before .before .before .before .before .before .before .before .before .before .before .before .before .before .before .before .before .before .before in
+    let j = c .before .before .before in
+    let l = j .before .before .before .before .before .before .before .loop in
+    let start = j .before .before .before .before .before .before .before .before .before .before .before .before .before .before .before .before in
     let run = l .inv .1 in
-    let here = c .before .before .before .before .before .before .before .before .before .before .loop-test .taken in
-    let stepped = c .before .before .before .before .before .before .before .step .ensures in
-    let room = c .before .before .before .before .before .before .before .before .before .before .before .before .before .before .begin .ensures .room in (
-      rw room at (run-refused (now (start .args .sheet)) (start .args .x) _ (l .i) (l .g) _ _ _ _ _ run here stepped (c .if1 .taken)),
-      rw room at (run-zeros (now (start .args .sheet)) (start .args .x) _ (l .i) (l .g) _ _ _ _ _ run here stepped (c .if1 .taken)),
+    let here = j .before .before .before .before .before .before .loop-test .taken in
+    let room = j .before .before .before .before .before .before .before .before .before .before .before .begin .ensures .room in (
+      rw room at (run-refused (now (start .args .sheet)) (start .args .x) _ (l .i) (l .s) (l .switch) _ _ _ _ run here (stepped j) (c .if2 .taken)),
+      rw room at (run-zeros (now (start .args .sheet)) (start .args .x) _ (l .i) (l .s) (l .switch) _ _ _ _ run here (stepped j) (c .if2 .taken)),
     )
 
 add-i : tie.Need-add-i Inv-loop μ-loop
-add-i c = let h = c .before .before .before .before .before .before .before .before .before .before .loop-test .taken in let k = c .before .before .before .before .before .before .before .before .before .before .before .before .before .before .before .before .before .before .before .pre .sheeted .few .tokens in omega arith
+add-i c =
+    let j = c .before .before .before in
+    let h = j .before .before .before .before .before .before .loop-test .taken in
+    let k = j .before .before .before .before .before .before .before .before .before .before .before .before .before .before .before .before .pre .sheeted .few .tokens in
+    omega arith
 
 loop-less : tie.Need-loop-less Inv-loop μ-loop
-loop-less c = omega arith
+loop-less c =
+    let j = c .before .before .before in
+    let h = j .before .before .before .before .before .before .loop-test .taken in
+    omega arith
 
 loop-again : tie.Need-loop-again Inv-loop μ-loop
-loop-again c = search (needs, run-goes)
+loop-again c =
+    let j = c .before .before .before in
+    let l = j .before .before .before .before .before .before .before .loop in
+    let start = j .before .before .before .before .before .before .before .before .before .before .before .before .before .before .before .before in
+    (stepped j .taken .room ∙ l .inv .0, run-goes (now (start .args .sheet)) (start .args .x) _ (l .i) (l .s) (l .switch) _ _ _ _ (l .inv .1) (j .before .before .before .before .before .before .loop-test .taken) (stepped j) (c .if2 .left))
 
 finish-requires : tie.Need-finish-requires Inv-loop μ-loop
 finish-requires c κs = search needs
@@ -61,14 +227,14 @@ same-length-2 c = search needs
 
 returns-2 : tie.Need-returns-2 Inv-loop μ-loop
 returns-2 c =
-    let l = c .before .before .before .before .before .before .before .loop in
+    let l = c .before .before .before .before .before .before .loop in
     let start = c .before .before .before .before .before .before .before .before .before .before .before .before .before .before .before in
     let run = l .inv .1 in
-    let over = c .before .before .before .before .before .before .loop-test .left in
+    let over = c .before .before .before .before .before .loop-test .left in
     let done = c .before .before .finish .ensures in
     let room = c .before .before .before .before .before .before .before .before .before .before .begin .ensures .room in (
-      rw room at (run-reports (now (start .args .sheet)) (start .args .x) _ (l .i) (l .g) _ _ [] run over (c .before .before .finish .result) (done .0)),
-      rw room at (run-fills (now (start .args .sheet)) (start .args .x) _ (l .i) (l .g) _ _ _ run over (done .1)),
+      rw room at (run-reports (now (start .args .sheet)) (start .args .x) _ (l .i) (l .s) (l .switch) _ [] run over (c .before .before .finish .result) (done .0)),
+      rw room at (run-fills (now (start .args .sheet)) (start .args .x) _ (l .i) (l .s) (l .switch) _ _ run over (done .1)),
     )
 
 pub format-spec : {M : Type 1} → statement M
@@ -78,9 +244,38 @@ format-spec =
     Inv-loop
     μ-loop
     begin-requires
+    new-requires
     loop-holds
-    slice-aggregate-step
-    step-requires
+    kind-at-requires
+    value-of-requires
+    turn-of-requires
+    after-requires
+    changes-requires
+    enum-told
+    cur-len-requires
+    span-info-requires
+    format-top-level-reserved-word-requires
+    enum-told-2
+    cur-len-requires-2
+    span-info-requires-2
+    format-top-level-reserved-word-no-indent-requires
+    enum-told-3
+    cur-len-requires-3
+    span-info-requires-3
+    format-newline-after-reserved-word-requires
+    enum-told-4
+    format-newline-reserved-word-requires
+    enum-told-5
+    format-reserved-requires
+    enum-told-6
+    build-info-requires
+    format-opening-parentheses-requires
+    enum-told-7
+    format-closing-parentheses-requires
+    enum-told-8
+    format-placeholder-requires
+    format-query-separator-requires
+    text-taken-as-requires
     same-length
     returns
     add-i

@@ -1,6 +1,6 @@
+use Rattle.indentation.specs.Of.{kindFor}
 use Rattle.indentation.proofs.block_kind.Statement.{statement}
 use Rattle.indentation.proofs.block_kind.Tie as tie
-use Rattle.indentation.specs.Stacks.{kindFor}
 
 returns : tie.Need-returns
 unfolding kindFor

@@ -1,7 +1,7 @@
-use Rattle.indentation.proofs.weight.Statement.{statement}
-use Rattle.indentation.proofs.weight.Tie as tie
 use Rattle.indentation.proofs.Laws.{by-one, by-nought}
 use borrow.Author.Needs.{needs}
+use Rattle.indentation.proofs.weight.Statement.{statement}
+use Rattle.indentation.proofs.weight.Tie as tie
 
 returns : tie.Need-returns
 returns c = search (needs, by-one)

@@ -1,10 +1,10 @@
-use borrow.Author.Needs.{needs}
-use Rattle.reserved.proofs.format_newline_reserved_word.Statement.{statement}
-use Rattle.reserved.proofs.format_newline_reserved_word.Tie as tie
 use denote.Ref.{now}
 use Rattle.state.proofs.Laws.{value-inside}
 use Rattle.state.proofs.Laws.{known-readable}
 use Rattle.reserved.proofs.Laws.{by-newline}
+use borrow.Author.Needs.{needs}
+use Rattle.reserved.proofs.format_newline_reserved_word.Statement.{statement}
+use Rattle.reserved.proofs.format_newline_reserved_word.Tie as tie
 
 value-of-requires : tie.Need-value-of-requires
 value-of-requires c κs = search needs
@@ -32,8 +32,8 @@ newline-level-requires c κs = search needs
 
 format-newline-reserved-word-requires : tie.Need-format-newline-reserved-word-requires
 format-newline-reserved-word-requires c κs =
-    let start = c .before .before .before .before .before .before .before .before .before .before .before .before .before .before .before .before .before .before .before .before in
-    (start .pre .steady .held, (value-inside (now (start .args .sheet)) (start .args .x) (start .args .i) _ (start .pre .known) (start .pre .here) (c .before .before .before .before .before .before .before .before .before .before .before .before .before .before .before .before .value-of .ensures), c .before .before .before .before .newline-level .ensures .low))
+    let start = c .before .before .before .before .before .before .before .before .before .before .before .before .before .before .before in
+    (start .pre .steady .held, (value-inside (now (start .args .sheet)) (start .args .x) (start .args .i) _ (start .pre .known) (start .pre .here) (c .before .before .before .before .before .before .before .before .before .before .before .before .value-of .ensures), c .before .before .newline-level .ensures .low))
 
 with-indentation-requires : tie.Need-with-indentation-requires
 with-indentation-requires c κs = search needs
@@ -41,14 +41,11 @@ with-indentation-requires c κs = search needs
 same-length : tie.Need-same-length
 same-length c = search needs
 
-same-length-2 : tie.Need-same-length-2
-same-length-2 c = search needs
-
 returns : tie.Need-returns
 returns c =
-    let start = c .before .before .before .before .before .before .before .before .before .before .before .before .before .before .before .before .before .before .before .before .before .before .before .before .before in
-    by-newline (now (start .args .sheet)) (start .args .x) (start .args .i) (start .args .s) (now (start .args .stacks)) _ (start .pre) _ (c .before .before .before .before .before .before .before .before .before .before .before .before .before .before .before .before .before .before .before .before .before .value-of .ensures) _ (c .before .before .before .before .before .before .before .before .before .before .before .before .before .before .before .before .before .before .before .before .case-of .ensures) _ _ _ _ _ _ _ _ _
-    (c .before .before .before .before .before .before .before .before .before .before .before .before .before .before .before .after-line-comment .ensures) (c .before .before .before .before .before .before .before .before .before .before .before .before .before .before .is-active .ensures) (c .before .before .before .before .before .before .before .before .before .before .before .before .span .ensures) (c .before .before .before .before .before .before .before .before .before .before .before .breaks-before .ensures) (c .before .before .before .before .before .before .before .before .before .newline-level .ensures) (c .before .before .before .before .format-newline-reserved-word .ensures) (c .with-indentation .ensures)
+    let start = c .before .before .before .before .before .before .before .before .before .before .before .before .before .before .before .before .before .before .before .before in
+    by-newline (now (start .args .sheet)) (start .args .x) (start .args .i) (start .args .s) _ (start .pre) _ (c .before .before .before .before .before .before .before .before .before .before .before .before .before .before .before .before .before .value-of .ensures) _ (c .before .before .before .before .before .before .before .before .before .before .before .before .before .before .before .before .case-of .ensures) _ _ _ _ _ _ _ _
+    (c .before .before .before .before .before .before .before .before .before .before .before .after-line-comment .ensures) (c .before .before .before .before .before .before .before .before .before .before .is-active .ensures) (c .before .before .before .before .before .before .before .before .before .span .ensures) (c .before .before .before .before .before .before .before .before .breaks-before .ensures) (c .before .before .before .before .before .before .before .newline-level .ensures) (c .before .before .before .before .format-newline-reserved-word .ensures) (c .with-indentation .ensures)
 
 pub format-newline-reserved-word-spec : {M : Type 1} → statement M
 format-newline-reserved-word-spec =
@@ -65,5 +62,4 @@ format-newline-reserved-word-spec =
     format-newline-reserved-word-requires
     with-indentation-requires
     same-length
-    same-length-2
     returns)

@@ -1,6 +1,15 @@
 use borrow.Author.Needs.{needs}
 use Rattle.top_level.proofs.format_top_level_reserved_word.Statement.{statement}
 use Rattle.top_level.proofs.format_top_level_reserved_word.Tie as tie
+use Rattle.top_level.proofs.format_top_level_reserved_word.Reads as reads
+use Rattle.top_level.proofs.format_top_level_reserved_word.Lts as lts
+use Rattle.indentation.proofs.Indentation.indent_level.Reads as indent-level-reads
+use Rattle.query_reserved.proofs.format_top_level_reserved_word.Reads as format-top-level-reserved-word-reads
+use Rattle.reserved.proofs.case_of.Reads as case-of-reads
+use Rattle.state.proofs.State.with_indentation.Reads as with-indentation-reads
+use Rattle.state.proofs.value_of.Reads as value-of-reads
+use Rattle.top_level.proofs.levels_around.Reads as levels-around-reads
+use Rattle.top_level.proofs.starts_level.Reads as starts-level-reads
 use denote.Ref.{now}
 use Rattle.state.proofs.Laws.{value-inside}
 use Rattle.top_level.proofs.Laws.{by-top-level}
@@ -11,14 +20,11 @@ value-of-requires c κs = search needs
 case-of-requires : tie.Need-case-of-requires
 case-of-requires c κs = search needs
 
-cur-len-requires : tie.Need-cur-len-requires
-cur-len-requires c κs = search needs
-
-span-info-requires : tie.Need-span-info-requires
-span-info-requires c κs = search needs
-
 starts-level-requires : tie.Need-starts-level-requires
 starts-level-requires c κs = search needs
+
+indent-level-requires : tie.Need-indent-level-requires
+indent-level-requires c κs = search needs
 
 cast-levels-around : tie.Need-cast-levels-around
 cast-levels-around c = search needs
@@ -28,9 +34,9 @@ levels-around-requires c κs = search needs
 
 format-top-level-reserved-word-requires : tie.Need-format-top-level-reserved-word-requires
 format-top-level-reserved-word-requires c κs =
-    let start = c .before .before .before .before .before .before .before .before .before .before .before .before .before .before .before .before .before .before in
-    let told = c .before .before .before .before .before .levels-around .ensures in
-    (start .pre .steady .held, (value-inside (now (start .args .sheet)) (start .args .x) (start .args .i) _ (start .pre .known) (start .pre .here) (c .before .before .before .before .before .before .before .before .before .before .before .before .before .before .value-of .ensures), (told .out-low, told .into-low)))
+    let start = c .before .before .before .before .before .before .before .before .before .before .before in
+    let told = c .before .before .before .levels-around .ensures in
+    (start .pre .steady .held, (value-inside (now (start .args .sheet)) (start .args .x) (start .args .i) _ (start .pre .known) (start .pre .here) (c .before .before .before .before .before .before .before .before .value-of .ensures), (told .out-low, told .into-low)))
 
 with-indentation-requires : tie.Need-with-indentation-requires
 with-indentation-requires c κs = search needs
@@ -38,14 +44,11 @@ with-indentation-requires c κs = search needs
 same-length : tie.Need-same-length
 same-length c = search needs
 
-same-length-2 : tie.Need-same-length-2
-same-length-2 c = search needs
-
 returns : tie.Need-returns
 returns c =
-    let start = c .before .before .before .before .before .before .before .before .before .before .before .before .before .before .before .before .before .before .before .before .before .before .before in
-    by-top-level (now (start .args .sheet)) (start .args .x) (start .args .i) (start .args .s) (now (start .args .stacks)) _ (start .pre) _ (c .before .before .before .before .before .before .before .before .before .before .before .before .before .before .before .before .before .before .before .value-of .ensures) _ (c .before .before .before .before .before .before .before .before .before .before .before .before .before .before .before .before .before .before .case-of .ensures) _ (c .before .before .before .before .before .before .before .before .before .before .before .before .before .before .before .cur-len .ensures) _ (c .before .before .before .before .before .before .before .before .before .before .before .before .before .before .span-info .ensures) _ _ _ _
-    _ _ (c .before .before .before .before .before .before .before .before .before .before .before .before .before .starts-level .ensures) (c .before .before .before .before .before .before .before .before .before .before .levels-around .ensures) (c .before .before .before .before .format-top-level-reserved-word .ensures) (c .with-indentation .ensures)
+    let start = c .before .before .before .before .before .before .before .before .before .before .before .before .before .before .before .before in
+    by-top-level (now (start .args .sheet)) (start .args .x) (start .args .i) (start .args .s) _ (start .pre) _ (c .before .before .before .before .before .before .before .before .before .before .before .before .before .value-of .ensures) _ (c .before .before .before .before .before .before .before .before .before .before .before .before .case-of .ensures) _ _ _ _
+    _ _ (c .before .before .before .before .before .before .before .before .before .before .before .starts-level .ensures) (c .before .before .before .before .before .before .before .before .levels-around .ensures) (c .before .before .before .before .format-top-level-reserved-word .ensures) (c .with-indentation .ensures)
 
 pub format-top-level-reserved-word-spec : {M : Type 1} → statement M
 format-top-level-reserved-word-spec =
@@ -53,13 +56,11 @@ format-top-level-reserved-word-spec =
     (tie.spec
     value-of-requires
     case-of-requires
-    cur-len-requires
-    span-info-requires
     starts-level-requires
+    indent-level-requires
     cast-levels-around
     levels-around-requires
     format-top-level-reserved-word-requires
     with-indentation-requires
     same-length
-    same-length-2
     returns)

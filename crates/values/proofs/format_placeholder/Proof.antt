@@ -1,8 +1,8 @@
+use denote.Ref.{now}
+use Rattle.values.proofs.Placeholder.{key-known, index-small, start-small, shown-within, by-placeholder}
 use borrow.Author.Needs.{needs}
 use Rattle.values.proofs.format_placeholder.Statement.{statement}
 use Rattle.values.proofs.format_placeholder.Tie as tie
-use denote.Ref.{now}
-use Rattle.values.proofs.Placeholder.{key-known, index-small, start-small, shown-within, by-placeholder}
 
 token-at-requires : tie.Need-token-at-requires
 token-at-requires c κs = search needs
@@ -27,8 +27,8 @@ same-length c = search needs
 
 returns : tie.Need-returns
 returns c =
-    let start = c .before .before .before .before .before .before .before .before .before .before .before .before .before .before .before in
-    by-placeholder (now (start .args .sheet)) (start .args .x) (start .args .i) (start .args .s) (now (start .args .stacks)) _ (start .pre) _ (c .before .before .before .before .before .before .before .before .before .before .before .token-at .ensures) _ (c .before .before .before .before .before .before .before .before .before .get .ensures) _ (c .before .before .before .before .before .before .before .value-in .ensures) _ _ _ _
+    let start = c .before .before .before .before .before .before .before .before .before .before .before .before .before .before in
+    by-placeholder (now (start .args .sheet)) (start .args .x) (start .args .i) (start .args .s) _ (start .pre) _ (c .before .before .before .before .before .before .before .before .before .before .before .token-at .ensures) _ (c .before .before .before .before .before .before .before .before .before .get .ensures) _ (c .before .before .before .before .before .before .before .value-in .ensures) _ _ _ _
     (c .before .before .before .before .before .before .offends .ensures) (c .before .before .before .format-placeholder .ensures) (c .with-index .ensures)
 
 pub format-placeholder-spec : {M : Type 1} → statement M

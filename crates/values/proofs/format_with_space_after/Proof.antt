@@ -1,17 +1,14 @@
+use Rattle.state.proofs.Laws.{value-inside}
+use Rattle.values.proofs.Laws.{by-with-space-after}
 use borrow.Author.Needs.{needs}
 use Rattle.values.proofs.format_with_space_after.Statement.{statement}
 use Rattle.values.proofs.format_with_space_after.Tie as tie
-use Rattle.state.proofs.Laws.{value-inside}
-use Rattle.values.proofs.Laws.{by-with-space-after}
 
 value-of-requires : tie.Need-value-of-requires
 value-of-requires c κs = search needs
 
 format-with-space-after-requires : tie.Need-format-with-space-after-requires
 format-with-space-after-requires c κs = search (needs, value-inside)
-
-with-text-requires : tie.Need-with-text-requires
-with-text-requires c κs = search needs
 
 same-length : tie.Need-same-length
 same-length c = search needs
@@ -21,10 +18,4 @@ returns c = search (needs, by-with-space-after)
 
 pub format-with-space-after-spec : {M : Type 1} → statement M
 format-with-space-after-spec =
-    tie.close
-    (tie.spec
-    value-of-requires
-    format-with-space-after-requires
-    with-text-requires
-    same-length
-    returns)
+    tie.close (tie.spec value-of-requires format-with-space-after-requires same-length returns)

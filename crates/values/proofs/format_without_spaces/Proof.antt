@@ -1,17 +1,14 @@
+use Rattle.state.proofs.Laws.{value-inside}
+use Rattle.values.proofs.Laws.{by-without-spaces}
 use borrow.Author.Needs.{needs}
 use Rattle.values.proofs.format_without_spaces.Statement.{statement}
 use Rattle.values.proofs.format_without_spaces.Tie as tie
-use Rattle.state.proofs.Laws.{value-inside}
-use Rattle.values.proofs.Laws.{by-without-spaces}
 
 value-of-requires : tie.Need-value-of-requires
 value-of-requires c κs = search needs
 
 format-without-spaces-requires : tie.Need-format-without-spaces-requires
 format-without-spaces-requires c κs = search (needs, value-inside)
-
-with-text-requires : tie.Need-with-text-requires
-with-text-requires c κs = search needs
 
 same-length : tie.Need-same-length
 same-length c = search needs
@@ -21,10 +18,4 @@ returns c = search (needs, by-without-spaces)
 
 pub format-without-spaces-spec : {M : Type 1} → statement M
 format-without-spaces-spec =
-    tie.close
-    (tie.spec
-    value-of-requires
-    format-without-spaces-requires
-    with-text-requires
-    same-length
-    returns)
+    tie.close (tie.spec value-of-requires format-without-spaces-requires same-length returns)

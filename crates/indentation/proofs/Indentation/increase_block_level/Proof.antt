@@ -1,52 +1,41 @@
+use Rattle.indentation.proofs.Laws.{by-block-if}
 use borrow.Author.Needs.{needs}
 use Rattle.indentation.proofs.Indentation.increase_block_level.Statement.{statement}
 use Rattle.indentation.proofs.Indentation.increase_block_level.Tie as tie
-use Rattle.indentation.proofs.StandLaws.{by-block, by-block-full}
-use lib.ListN.{length-set}
-use mathlib.Core.Path.{_∙_}
-use Rattle.previous.proofs.Laws.{length-put}
 
-returns : tie.Need-returns
-returns c = search (needs, by-block-full)
+within-requires : tie.Need-within-requires
+within-requires c κs = search needs
+
+array-read-old : tie.Need-array-read-old
+array-read-old c = search needs
 
 block-kind-requires : tie.Need-block-kind-requires
 block-kind-requires c κs = search needs
 
-mul-stacks : tie.Need-mul-stacks
-mul-stacks c = search needs
+chosen-kind-requires : tie.Need-chosen-kind-requires
+chosen-kind-requires c κs = search needs
 
-slice-write-stacks : tie.Need-slice-write-stacks
-slice-write-stacks c = search needs
+array-write-kinds : tie.Need-array-write-kinds
+array-write-kinds c = search needs
 
-add-self : tie.Need-add-self
-add-self c = search needs
+more-if-requires : tie.Need-more-if-requires
+more-if-requires c κs = search needs
 
-no-previous-requires : tie.Need-no-previous-requires
-no-previous-requires c κs = search needs
+more-if-requires-2 : tie.Need-more-if-requires-2
+more-if-requires-2 c κs = search needs
 
-put-previous-requires : tie.Need-put-previous-requires
-put-previous-requires c κs = search needs
-
-add-self-2 : tie.Need-add-self-2
-add-self-2 c = search needs
-
-same-length : tie.Need-same-length
-same-length c = length-put _ _ _ _ (c .before .before .put-previous .ensures) ∙ simp length-set
-
-returns-2 : tie.Need-returns-2
-returns-2 c = search (needs, by-block)
+returns : tie.Need-returns
+returns c = search (needs, by-block-if)
 
 pub increase-block-level-spec : {M : Type 1} → statement M
 increase-block-level-spec =
     tie.close
     (tie.spec
-    returns
+    within-requires
+    array-read-old
     block-kind-requires
-    mul-stacks
-    slice-write-stacks
-    add-self
-    no-previous-requires
-    put-previous-requires
-    add-self-2
-    same-length
-    returns-2)
+    chosen-kind-requires
+    array-write-kinds
+    more-if-requires
+    more-if-requires-2
+    returns)

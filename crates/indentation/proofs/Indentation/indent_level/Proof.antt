@@ -1,7 +1,7 @@
+use Rattle.indentation.proofs.Laws.{by-level, by-level-folded}
 use borrow.Author.Needs.{needs}
 use Rattle.indentation.proofs.Indentation.indent_level.Statement.{statement}
 use Rattle.indentation.proofs.Indentation.indent_level.Tie as tie
-use Rattle.indentation.proofs.StandLaws.{by-level, by-level-folded}
 
 unfolded-count-requires : tie.Need-unfolded-count-requires
 unfolded-count-requires c κs = search needs

@@ -1,33 +1,27 @@
-use Rattle.indentation.proofs.Indentation.unfolded_count.Statement.{statement}
-use Rattle.indentation.proofs.Indentation.unfolded_count.Tie as tie
 use borrow.Author.Needs.{needs}
-use denote.Ref.{now}
 use mathlib.Core.Path.{_≡_, _∙_}
 use mathlib.Core.List.{map}
 use Prim.Native.Nat.{_-_, _≤_}
 use native.Mathlib.Omega.{arith}
 use Rattle.rules.specs.Indentation.{unfolded}
 use Rattle.stacks.specs.Stack.{stack}
-use Rattle.indentation.specs.Stacks.{typeOf}
-use Rattle.indentation.specs.Stacks as stacks
-use Rattle.indentation.specs.Of.{kindsIn, typesOf}
-use Rattle.indentation.proofs.StandLaws.{counts-on}
+use Rattle.indentation.specs.Of.{typeOf, typesOf}
+use Rattle.indentation.proofs.Laws.{counts-on}
+use Rattle.indentation.proofs.Indentation.unfolded_count.Statement.{statement}
+use Rattle.indentation.proofs.Indentation.unfolded_count.Tie as tie
 
 abbrev Inv-loop : tie.InvT-loop
-Inv-loop stacks n i₀ count₀ i count = (i ≤ n) × (count ≤ i) × (count ≡ unfolded (map typeOf (stack 0 i (kindsIn stacks))))
+Inv-loop n kinds i₀ count₀ i count = (i ≤ n) × (count ≤ i) × (count ≡ unfolded (map typeOf (stack 0 i kinds)))
 
 abbrev μ-loop : tie.MeasureT-loop
-μ-loop stacks n i₀ count₀ i count = n - i
+μ-loop n kinds i₀ count₀ i count = n - i
 
 loop-holds : tie.Need-loop-holds Inv-loop μ-loop
 unfolding unfolded
 loop-holds c = search needs
 
-mul-weight : tie.Need-mul-weight Inv-loop μ-loop
-mul-weight c = search needs
-
-shared-slice-read-weight : tie.Need-shared-slice-read-weight Inv-loop μ-loop
-shared-slice-read-weight c = search needs
+array-read-weight : tie.Need-array-read-weight Inv-loop μ-loop
+array-read-weight c = search needs
 
 weight-requires : tie.Need-weight-requires Inv-loop μ-loop
 weight-requires c κs = search needs
@@ -42,17 +36,12 @@ loop-less : tie.Need-loop-less Inv-loop μ-loop
 loop-less c = omega arith
 
 loop-again : tie.Need-loop-again Inv-loop μ-loop
-loop-again c =
-    let inv = c .before .before .before .loop .inv in
-    let w = c .weight .ensures in
-    let k = c .before .before .before .before .before .pre .stacks .kinds .within in
-    let t = c .before .before .loop-test .taken in
-    (omega arith, omega arith, counts-on (now (c .before .before .before .before .before .args .stacks)) (c .before .before .before .loop .i) (c .before .before .before .loop .count) (c .weight .result) (omega arith) (w .0) (inv .2))
+loop-again c = search (needs, counts-on)
 
 returns : tie.Need-returns Inv-loop μ-loop
-unfolding typesOf stacks.typesOf
+unfolding typesOf
 returns c = let e : c .before .loop .i ≡ c .before .before .before .args .self .nkinds = omega arith in
-    (c .before .loop .inv .2 ∙ rw e, let k = c .before .before .before .pre .stacks .kinds .within in omega arith)
+    (c .before .loop .inv .2 ∙ rw e, let k = c .before .before .before .pre .kinds .within in omega arith)
 
 pub unfolded-count-spec : {M : Type 1} → statement M
 unfolded-count-spec =
@@ -61,8 +50,7 @@ unfolded-count-spec =
     Inv-loop
     μ-loop
     loop-holds
-    mul-weight
-    shared-slice-read-weight
+    array-read-weight
     weight-requires
     add-count
     add-i

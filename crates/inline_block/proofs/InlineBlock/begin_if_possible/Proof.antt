@@ -1,41 +1,45 @@
+use Rattle.inline_block.proofs.Laws.{by-begin}
 use borrow.Author.Needs.{needs}
 use Rattle.inline_block.proofs.InlineBlock.begin_if_possible.Statement.{statement}
 use Rattle.inline_block.proofs.InlineBlock.begin_if_possible.Tie as tie
-use Rattle.inline_block.proofs.Laws.{by-begin, by-no-room, by-not-inline}
 
-add-stacks : tie.Need-add-stacks
-add-stacks c = search needs
+both-requires : tie.Need-both-requires
+both-requires c κs = search needs
 
-mul-stacks : tie.Need-mul-stacks
-mul-stacks c = search needs
+within-requires : tie.Need-within-requires
+within-requires c κs = search needs
 
-slice-write-stacks : tie.Need-slice-write-stacks
-slice-write-stacks c = search needs
+mul-old : tie.Need-mul-old
+mul-old c = search needs
 
-add-self : tie.Need-add-self
-add-self c = search needs
+array-read-old : tie.Need-array-read-old
+array-read-old c = search needs
 
-same-length : tie.Need-same-length
-same-length c = search needs
+chosen-requires : tie.Need-chosen-requires
+chosen-requires c κs = search needs
+
+mul-lengths : tie.Need-mul-lengths
+mul-lengths c = search needs
+
+array-write-lengths : tie.Need-array-write-lengths
+array-write-lengths c = search needs
+
+more-if-requires : tie.Need-more-if-requires
+more-if-requires c κs = search needs
 
 returns : tie.Need-returns
 returns c = search (needs, by-begin)
-
-returns-2 : tie.Need-returns-2
-returns-2 c = search (needs, by-no-room)
-
-returns-3 : tie.Need-returns-3
-returns-3 c = search (needs, by-not-inline)
 
 pub begin-if-possible-spec : {M : Type 1} → statement M
 begin-if-possible-spec =
     tie.close
     (tie.spec
-    add-stacks
-    mul-stacks
-    slice-write-stacks
-    add-self
-    same-length
-    returns
-    returns-2
-    returns-3)
+    both-requires
+    within-requires
+    mul-old
+    array-read-old
+    chosen-requires
+    mul-lengths
+    array-write-lengths
+    more-if-requires
+    returns)

@@ -1,0 +1,14 @@
+use Rattle.formatter.proofs.Laws.{level-few}
+use Rattle.state.proofs.Laws.{known-readable}
+use borrow.Author.Needs.{needs}
+use Rattle.formatter.proofs.span_info.Statement.{statement}
+use Rattle.formatter.proofs.span_info.Tie as tie
+
+top-level-tokens-info-requires : tie.Need-top-level-tokens-info-requires
+top-level-tokens-info-requires c κs = search (needs, known-readable, level-few)
+
+returns : tie.Need-returns
+returns c = search needs
+
+pub span-info-spec : {M : Type 1} → statement M
+span-info-spec = tie.close (tie.spec top-level-tokens-info-requires returns)
