@@ -1,5 +1,5 @@
-pub mod Due
 pub mod Strip
+pub mod Own
 pub mod Adds
 pub mod Keeps
 pub mod Call
