@@ -12,9 +12,9 @@ use Rattle.rules.specs.Checks.{checked}
 use Rattle.rules.specs.Sheet.{envOf, tokensOf}
 use Rattle.rules.specs.Answer.{Answer, laid, refusal, answerAs, answer, reportOf, bufferOf, reported, bufferAfter}
 use Rattle.rules.specs.Due.{strip, dueIn, dueOf, Faithful}
-use Rattle.rules.proofs.Keeps.{Keeps, keeps}
+use Rattle.rules.proofs.Keeps.{StripsTo, keeps}
 
-by-checked : (s : List ℕ) (room : ℕ) (c : Checked) → Keeps (answerAs s room c) (dueIn s c)
+by-checked : (s : List ℕ) (room : ℕ) (c : Checked) → StripsTo (answerAs s room c) (dueIn s c)
 unfolding answerAs dueIn envOf
 by-checked s room (found.Sound c) = keeps (envOf s c room) (tokensOf s c)
 by-checked s room found.Size = λ z. omega arith
@@ -22,7 +22,7 @@ by-checked s room (found.Word p) = λ z. omega arith
 by-checked s room (found.Place p) = λ z. omega arith
 by-checked s room (found.Byte p) = λ z. omega arith
 
-in-buffer : (a : Answer) (room : ℕ) (v : List ℕ) → Keeps a v → reportOf a .refusal ≡ 0 → strip (take (reportOf a .length) (bufferOf room a)) ≡ v
+in-buffer : (a : Answer) (room : ℕ) (v : List ℕ) → StripsTo a v → reportOf a .refusal ≡ 0 → strip (take (reportOf a .length) (bufferOf room a)) ≡ v
 unfolding reportOf bufferOf
 in-buffer (laid b l w) room v k z = rw (take-append-seam b _) k
 in-buffer (refusal n p) room v k z = absurd (k z)

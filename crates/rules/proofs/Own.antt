@@ -20,7 +20,7 @@ use Rattle.rules.specs.Text.{toUpper, toLower, byteInCase, inCase}
 use Rattle.rules.specs.Switch as rules
 use Rattle.rules.specs.Params.{valueIn, byName, byIndex, entry, get}
 use Rattle.rules.specs.Formatter.{caseFor, formatReservedWord}
-use Rattle.rules.specs.Due.{roleOf, switchIn, across, small, capital, letterIn, wordIn, numbered, calledBy, entryOf}
+use Rattle.rules.specs.Due.{roleOf, switches, across, smalls, capitals, letterIn, inAskedCase, oneBased, calledBy, entryOf}
 
 -- ---- the asked case
 
@@ -48,7 +48,7 @@ across-out (suc k) a b c h = go (eqb c a) refl (across-out k (suc a) (suc b) c (
     go true q ih = let g = eqb-true c a q in absurd (h 0 (omega arith) (omega arith))
     go false q ih = ih
 
-upper-is : (c : ℕ) → toUpper c ≡ across small capital c
+upper-is : (c : ℕ) → toUpper c ≡ across smalls capitals c
 unfolding upFrom
 upper-is c = go (leb 97 c) refl (leb c 122) refl
   where
@@ -60,7 +60,7 @@ upper-is c = go (leb 97 c) refl (leb c 122) refl
     go true e false f = let high = leb-false c 122 f in sym (across-out 26 97 65 c (λ i l q. omega arith))
     go false e t f = let low = leb-false 97 c e in sym (across-out 26 97 65 c (λ i l q. omega arith))
 
-lower-is : (c : ℕ) → toLower c ≡ across capital small c
+lower-is : (c : ℕ) → toLower c ≡ across capitals smalls c
 unfolding upFrom
 lower-is c = go (leb 65 c) refl (leb c 90) refl
   where
@@ -85,8 +85,8 @@ as-is : (v : List ℕ) → inCase case.AsIs v ≡ v
 as-is [] = refl
 as-is (c ∷ cs) = rw (as-is cs)
 
-pub word-is : (e : Env) (v : List ℕ) → formatReservedWord e v ≡ wordIn (e .keep) (e .options .casing) v
-unfolding formatReservedWord caseFor wordIn
+pub word-is : (e : Env) (v : List ℕ) → formatReservedWord e v ≡ inAskedCase (e .keep) (e .options .casing) v
+unfolding formatReservedWord caseFor inAskedCase
 word-is e v = go (anyOf (same v) (e .keep))
   where
     go : (kept : Bool) → inCase (if kept then case.AsIs else e .options .casing) v ≡ (if kept then v else map (letterIn (e .options .casing)) v)
@@ -104,11 +104,11 @@ called-is n (p ∷ ps) = go (same (p .name) n) (called-is n ps)
     go true ih = refl
     go false ih = ih
 
-numbered-is : (vs : List (List ℕ)) (n : OneIndexed) → byIndex vs (fromOne n) ≡ numbered vs (n .0)
+numbered-is : (vs : List (List ℕ)) (n : OneIndexed) → byIndex vs (fromOne n) ≡ oneBased vs (n .0)
 unfolding byIndex
 numbered-is vs n = go (n .0)
   where
-    go : (m : ℕ) → byIndex vs (fromOne (record { 0 = m })) ≡ numbered vs m
+    go : (m : ℕ) → byIndex vs (fromOne (record { 0 = m })) ≡ oneBased vs m
     go zero = refl
     go (suc m) = rw (eqb·suc-zero m, sub-one)
 
@@ -131,7 +131,7 @@ filled-is ps k i v = ap (orElse v) (entry-is ps k i)
 
 -- ---- the switch
 
-pub switch-is : (k : TokenKind) (v : List ℕ) → rules.switchIn k v ≡ switchIn (roleOf k) v
+pub switch-is : (k : TokenKind) (v : List ℕ) → rules.switchIn k v ≡ switches (roleOf k) v
 unfolding rules.switchIn
 switch-is kind.TypeSpecifier v = refl
 switch-is kind.Whitespace v = refl

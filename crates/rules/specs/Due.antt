@@ -33,16 +33,16 @@ strip (x ∷ xs) = if white x then strip xs else x ∷ strip xs
 
 -- ---- how a token is shown
 
--- as its own value; in the asked case; as its parameter, which has a key, or else as its own value
-pub data Shown : Type 0 where
-  itself : List ℕ → Shown
-  cased : List ℕ → Shown
-  filled : Key → List ℕ → Shown
+-- as its own value; in the asked case where case applies; as the parameter of its key
+pub data Piece : Type 0 where
+  own : List ℕ → Piece
+  cased : List ℕ → Piece
+  filled : Key → List ℕ → Piece
 
 pub data Role : Type 0 where
   blank comment placeholder reserved other : Role
 
--- reserved: the five kinds named Reserved, and brackets
+-- case applies to the five kinds named Reserved and to brackets
 abbrev pub roleOf : TokenKind → Role
 roleOf kind.TypeSpecifier = other
 roleOf kind.Whitespace = blank
@@ -64,26 +64,27 @@ roleOf kind.Join = other
 
 -- ---- the kept tokens in order: all but the switch comments, the tokens dropped after them, and Whitespace while on
 
--- while on, by its role
-abbrev pub laidOut : Role → Token → List Shown
-laidOut blank t = []
-laidOut comment t = itself (t .value) ∷ []
-laidOut placeholder t = filled (t .key) (t .value) ∷ []
-laidOut reserved t = cased (t .value) ∷ []
-laidOut other t = itself (t .value) ∷ []
+-- of a token while on
+abbrev pub keptOn : Role → Token → List Piece
+keptOn blank t = []
+keptOn comment t = own (t .value) ∷ []
+keptOn placeholder t = filled (t .key) (t .value) ∷ []
+keptOn reserved t = cased (t .value) ∷ []
+keptOn other t = own (t .value) ∷ []
 
 -- a comment may switch off (true) or on (false)
-abbrev pub switchIn : Role → List ℕ → Option Bool
-switchIn blank v = none
-switchIn comment v = checkFmtOff v
-switchIn placeholder v = none
-switchIn reserved v = none
-switchIn other v = none
+abbrev pub switches : Role → List ℕ → Option Bool
+switches blank v = none
+switches comment v = checkFmtOff v
+switches placeholder v = none
+switches reserved v = none
+switches other v = none
 
-abbrev pub keptBy : Option Bool → Bool → Token → List Shown
+-- a switch comment is dropped; while off a token of any kind is its own value
+abbrev pub keptBy : Option Bool → Bool → Token → List Piece
 keptBy (some off) on t = []
-keptBy none true t = laidOut (roleOf (t .kind)) t
-keptBy none false t = itself (t .value) ∷ []
+keptBy none true t = keptOn (roleOf (t .kind)) t
+keptBy none false t = own (t .value) ∷ []
 
 abbrev pub onAfter : Option Bool → Bool → Bool
 onAfter (some off) on = not off
@@ -93,13 +94,13 @@ abbrev pub isSwitch : Option Bool → Bool
 isSwitch (some off) = true
 isSwitch none = false
 
--- on: how the switch stands; drop: the token before was a switch comment
-unfoldable pub keptFrom : Bool → Bool → List Token → List Shown
-keptFrom on drop [] = []
-keptFrom on true (t ∷ ts) = keptFrom on false ts
-keptFrom on false (t ∷ ts) =
-    let switch = switchIn (roleOf (t .kind)) (t .value) in
-    keptBy switch on t ++ keptFrom (onAfter switch on) (isSwitch switch) ts
+-- on: the switch is on; drop: the token before was a switch comment, so that the next is dropped, of whatever kind
+unfoldable pub keptTokens : Bool → Bool → List Token → List Piece
+keptTokens on drop [] = []
+keptTokens on true (t ∷ ts) = keptTokens on false ts
+keptTokens on false (t ∷ ts) =
+    let switch = switches (roleOf (t .kind)) (t .value) in
+    keptBy switch on t ++ keptTokens (onAfter switch on) (isSwitch switch) ts
 
 -- ---- the asked case
 
@@ -109,41 +110,41 @@ across [] ys c = c
 across (x ∷ xs) [] c = c
 across (x ∷ xs) (y ∷ ys) c = if eqb c x then y else across xs ys c
 
-abbrev pub small : List ℕ
-small = bytes "abcdefghijklmnopqrstuvwxyz"
+abbrev pub smalls : List ℕ
+smalls = bytes "abcdefghijklmnopqrstuvwxyz"
 
-abbrev pub capital : List ℕ
-capital = bytes "ABCDEFGHIJKLMNOPQRSTUVWXYZ"
+abbrev pub capitals : List ℕ
+capitals = bytes "ABCDEFGHIJKLMNOPQRSTUVWXYZ"
 
 abbrev pub letterIn : Case → ℕ → ℕ
 letterIn case.AsIs c = c
-letterIn case.Upper c = across small capital c
-letterIn case.Lower c = across capital small c
+letterIn case.Upper c = across smalls capitals c
+letterIn case.Lower c = across capitals smalls c
 
 -- a keep word, by its raw value, stays as it is
-unfoldable pub wordIn : List (List ℕ) → Case → List ℕ → List ℕ
-wordIn keep k v = if anyOf (same v) keep then v else map (letterIn k) v
+unfoldable pub inAskedCase : List (List ℕ) → Case → List ℕ → List ℕ
+inAskedCase keep k v = if anyOf (same v) keep then v else map (letterIn k) v
 
 -- ---- a placeholder's entry
 
 -- entry n, counted from one
-abbrev pub numbered : List (List ℕ) → ℕ → Option (List ℕ)
-numbered vs zero = none
-numbered vs (suc n) = nth? vs n
+abbrev pub oneBased : List (List ℕ) → ℕ → Option (List ℕ)
+oneBased vs zero = none
+oneBased vs (suc n) = nth? vs n
 
 -- the first entry with the name
 abbrev pub calledBy : List ℕ → List Param → Option (List ℕ)
 calledBy n [] = none
 calledBy n (p ∷ ps) = if same (p .name) n then some (p .value) else calledBy n ps
 
--- i: how many placeholders with no key or an empty name were laid out before it
+-- i: the count of placeholders with no key or an empty name laid out before it; a number has the name ""
 abbrev pub entryOf : QueryParams → Key → ℕ → Option (List ℕ)
 entryOf None k i = none
 entryOf (Indexed vs) absent i = nth? vs i
 entryOf (Indexed vs) (named []) i = nth? vs i
 entryOf (Indexed vs) (named (c ∷ n)) i = none
 entryOf (Indexed vs) (zeroIndexed n) i = nth? vs (n .0)
-entryOf (Indexed vs) (oneIndexed n) i = numbered vs (n .0)
+entryOf (Indexed vs) (oneIndexed n) i = oneBased vs (n .0)
 entryOf (Named ps) absent i = none
 entryOf (Named ps) (named n) i = calledBy n ps
 entryOf (Named ps) (zeroIndexed n) i = calledBy [] ps
@@ -157,31 +158,31 @@ isNext (named (c ∷ n)) = false
 isNext (zeroIndexed n) = false
 isNext (oneIndexed n) = false
 
-abbrev pub countOne : Shown → ℕ → ℕ
-countOne (itself v) n = n
+abbrev pub countOne : Piece → ℕ → ℕ
+countOne (own v) n = n
 countOne (cased v) n = n
 countOne (filled k v) n = if isNext k then suc n else n
 
--- how many of these are placeholders with no key or an empty name
-unfoldable pub count : List Shown → ℕ
-count [] = 0
-count (x ∷ xs) = countOne x (count xs)
+-- the count of placeholders with no key or an empty name
+unfoldable pub countNext : List Piece → ℕ
+countNext [] = 0
+countNext (x ∷ xs) = countOne x (countNext xs)
 
 -- ---- what is due
 
-abbrev pub bytesOf : QueryParams → List (List ℕ) → Case → List Shown → Shown → List ℕ
-bytesOf ps keep k before (itself v) = v
-bytesOf ps keep k before (cased v) = wordIn keep k v
-bytesOf ps keep k before (filled key v) = orElse v (entryOf ps key (count before))
+abbrev pub shows : QueryParams → List (List ℕ) → Case → List Piece → Piece → List ℕ
+shows ps keep k before (own v) = v
+shows ps keep k before (cased v) = inAskedCase keep k v
+shows ps keep k before (filled key v) = orElse v (entryOf ps key (countNext before))
 
 -- before: those before, the last of them first
-unfoldable pub dueFrom : QueryParams → List (List ℕ) → Case → List Shown → List Shown → List ℕ
+unfoldable pub dueFrom : QueryParams → List (List ℕ) → Case → List Piece → List Piece → List ℕ
 dueFrom ps keep k before [] = []
-dueFrom ps keep k before (x ∷ xs) = strip (bytesOf ps keep k before x) ++ dueFrom ps keep k (x ∷ before) xs
+dueFrom ps keep k before (x ∷ xs) = strip (shows ps keep k before x) ++ dueFrom ps keep k (x ∷ before) xs
 
 -- of parameters, keep words, a case and tokens
 unfoldable pub due : QueryParams → List (List ℕ) → Case → List Token → List ℕ
-due ps keep k ts = dueFrom ps keep k [] (keptFrom true false ts)
+due ps keep k ts = dueFrom ps keep k [] (keptTokens true false ts)
 
 -- of a sheet that checks 1 to 4 pass; of another, nothing
 unfoldable pub dueIn : List ℕ → Checked → List ℕ
