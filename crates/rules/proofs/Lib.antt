@@ -3,3 +3,4 @@ pub mod Own
 pub mod Adds
 pub mod Keeps
 pub mod Call
+pub mod Tables
