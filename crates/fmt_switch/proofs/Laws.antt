@@ -19,7 +19,7 @@ use Rattle.rules.proofs.TokenKind as kinds
 use Rattle.fmt_switch.specs.declared.Said.{Said}
 use Rattle.fmt_switch.specs.declared.Said.the-variants as said
 use Rattle.fmt_switch.specs.declared.Switch.{Switch as Code}
-use Rattle.fmt_switch.specs.Of.{movedBy, isComment, saidOf, switchOf}
+use Rattle.fmt_switch.specs.Of.{movedByNo, isComment, saidOf, switchOf}
 
 others : List ℕ
 others = 0 ∷ 1 ∷ 2 ∷ 3 ∷ 4 ∷ 5 ∷ 6 ∷ 7 ∷ 8 ∷ 9 ∷ 10 ∷ 13 ∷ 14 ∷ 15 ∷ 16 ∷ []
@@ -65,8 +65,8 @@ unfolding readAll moved
 done-stays o [] = refl
 done-stays o (c ∷ cs) = done-stays o cs
 
-past-three : (state k : ℕ) → 3 < k → movedBy state k ≡ done none
-unfolding movedBy
+past-three : (state k : ℕ) → 3 < k → movedByNo state k ≡ done none
+unfolding movedByNo
 past-three state zero h = absurd (omega arith)
 past-three state (suc zero) h = absurd (omega arith)
 past-three state (suc (suc zero)) h = absurd (omega arith)
@@ -74,17 +74,17 @@ past-three state (suc (suc (suc zero))) h = absurd (omega arith)
 past-three state (suc (suc (suc (suc k)))) h = refl
 
 -- stay is 0 and next is 1
-goes-on : (state k : ℕ) → (k ≡ 2 → ⊥) → (k ≡ 3 → ⊥) → k ≤ 3 → movedBy state k ≡ inState (state + k)
-unfolding movedBy
+goes-on : (state k : ℕ) → (k ≡ 2 → ⊥) → (k ≡ 3 → ⊥) → k ≤ 3 → movedByNo state k ≡ inState (state + k)
+unfolding movedByNo
 goes-on state zero two three h = rw add-zero
 goes-on state (suc zero) two three h = rw (add-suc, add-zero)
 goes-on state (suc (suc zero)) two three h = absurd (two refl)
 goes-on state (suc (suc (suc zero))) two three h = absurd (three refl)
 goes-on state (suc (suc (suc (suc k)))) two three h = absurd (omega arith)
 
-module _ (s : List ℕ) (start n i state m : ℕ) (r : Reading) (h : i < n) (l : start + n ≤ length s) (e : movedBy state m ≡ moved (inState state) (getD s (start + i) 0))
+module _ (s : List ℕ) (start n i state m : ℕ) (r : Reading) (h : i < n) (l : start + n ≤ length s) (e : movedByNo state m ≡ moved (inState state) (getD s (start + i) 0))
     (inv : readAll (inState state) (rest s start n i) ≡ r) where
-  one-read : readAll (movedBy state m) (rest s start n (i + 1)) ≡ r
+  one-read : readAll (movedByNo state m) (rest s start n (i + 1)) ≡ r
   unfolding readAll
   one-read = rw e (sym (rw (rest-next s start n i h l)) ∙ inv)
 
@@ -92,11 +92,11 @@ module _ (s : List ℕ) (start n i state m : ℕ) (r : Reading) (h : i < n) (l :
   by-step k two three q f = rw f (rw (goes-on state m two three q) at one-read)
 
   pub by-on : m ≡ 2 → some false ≡ answered r
-  unfolding movedBy answered
+  unfolding movedByNo answered
   by-on q = ap answered (sym (done-stays (some false) (rest s start n (i + 1))) ∙ (rw q at one-read))
 
   pub by-off : m ≡ 3 → some true ≡ answered r
-  unfolding movedBy answered
+  unfolding movedByNo answered
   by-off q = ap answered (sym (done-stays (some true) (rest s start n (i + 1))) ∙ (rw q at one-read))
 
   pub by-nothing : 3 < m → none ≡ answered r

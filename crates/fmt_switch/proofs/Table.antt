@@ -13,9 +13,9 @@ use lib.ListN.{getD}
 use borrow.Author.Tests.{leb-true, eq-eqb, ne-eqb}
 use Rattle.rules.specs.Base.{if_then_else_, first}
 use Rattle.rules.specs.Sheet.{listOf}
-use Rattle.rules.specs.Switch.{Move, stay, next, answer, OnByte, _↪_, fmtTable, inState, movedTo, moved, movedBy as movedAs}
+use Rattle.rules.specs.Switch.{Move, stay, next, answer, OnByte, _↪_, fmtTable, inState, movedTo, moved, movedBy}
 use Rattle.stacks.specs.Laws.{same-or}
-use Rattle.fmt_switch.specs.Of.{movedBy}
+use Rattle.fmt_switch.specs.Of.{movedByNo}
 
 abbrev pub rows : List ℕ
 rows = 0 ∷ 1 ∷ 2 ∷ 5 ∷ 7 ∷ 9 ∷ 11 ∷ 14 ∷ 18 ∷ 20 ∷ []
@@ -93,8 +93,8 @@ row-next j end h =
     let e : end - j ≡ suc (end - (j + 1)) = omega arith in
     rw (e, add-one)
 
-moves-as : (state m : ℕ) → m ≤ 3 → movedBy state m ≡ movedAs state (moveOf m)
-unfolding movedBy movedAs moveOf
+moves-as : (state m : ℕ) → m ≤ 3 → movedByNo state m ≡ movedBy state (moveOf m)
+unfolding movedByNo movedBy moveOf
 moves-as state zero h = refl
 moves-as state (suc zero) h = refl
 moves-as state (suc (suc zero)) h = refl
@@ -114,7 +114,7 @@ module _ (state c : ℕ) (h : state < 9) where
   unfolding moved
   moved-is = rw (row-is state h)
 
-  pub by-byte : (j end : ℕ) → j < end → j < 20 → getD bytes j 0 ≡ c → found c (rowFrom j end) ≡ found c (row state) → movedBy state (getD moves j 0) ≡ moved (inState state) c
+  pub by-byte : (j end : ℕ) → j < end → j < 20 → getD bytes j 0 ≡ c → found c (rowFrom j end) ≡ found c (row state) → movedByNo state (getD moves j 0) ≡ moved (inState state) c
   unfolding movedTo entry _↪_
   by-byte j end l k e i =
       let f : found c (rowFrom j end) ≡ some (entry j) = rw (row-next j end l, eq-eqb _ _ e) in
@@ -124,8 +124,8 @@ module _ (state c : ℕ) (h : state < 9) where
   unfolding entry _↪_
   by-other j end l e i = sym (rw (row-next j end l, ne-eqb _ _ e)) ∙ i
 
-  pub by-none : (j end : ℕ) → end ≤ j → found c (rowFrom j end) ≡ found c (row state) → movedBy state 4 ≡ moved (inState state) c
-  unfolding movedTo movedBy rowFrom listOf
+  pub by-none : (j end : ℕ) → end ≤ j → found c (rowFrom j end) ≡ found c (row state) → movedByNo state 4 ≡ moved (inState state) c
+  unfolding movedTo movedByNo rowFrom listOf
   by-none j end l i =
       let z : end - j ≡ 0 = omega arith in
       let f : found c (rowFrom j end) ≡ none = rw z in
@@ -133,7 +133,7 @@ module _ (state c : ℕ) (h : state < 9) where
 
 -- the last state has no next
 last-answers : (b d : Bool) → movedTo 8 (if b then some (102 ↪ answer true) else if d then some (70 ↪ answer true) else none) ≡ inState 9 → ⊥
-unfolding movedTo movedAs _↪_
+unfolding movedTo movedBy _↪_
 last-answers true d e = let z : _≡_ {A = ℕ} 0 1 = cc in omega arith
 last-answers false true e = let z : _≡_ {A = ℕ} 0 1 = cc in omega arith
 last-answers false false e = let z : _≡_ {A = ℕ} 0 1 = cc in omega arith
@@ -143,8 +143,8 @@ unfolding moved fmtTable _↪_
 last-ends c e = last-answers (eqb 102 c) (eqb 70 c) e
 
 -- so the next state is one of the nine
-pub still-state : (state c m k : ℕ) → state < 9 → (m ≡ 2 → ⊥) → (m ≡ 3 → ⊥) → m ≤ 3 → k ≡ m → movedBy state m ≡ moved (inState state) c → state + k < 9
-unfolding movedBy
+pub still-state : (state c m k : ℕ) → state < 9 → (m ≡ 2 → ⊥) → (m ≡ 3 → ⊥) → m ≤ 3 → k ≡ m → movedByNo state m ≡ moved (inState state) c → state + k < 9
+unfolding movedByNo
 still-state state c zero k h two three q f e = omega arith
 still-state state c (suc zero) k h two three q f e =
     ⊎-elim

@@ -12,12 +12,12 @@ use Rattle.fmt_switch.specs.declared.Said.the-variants as said
 use Rattle.fmt_switch.specs.declared.Switch.{Switch as Code}
 
 -- a state after a move's number
-unfoldable pub movedBy : ℕ → ℕ → Reading
-movedBy state zero = inState state
-movedBy state (suc zero) = inState (suc state)
-movedBy state (suc (suc zero)) = done (some false)
-movedBy state (suc (suc (suc zero))) = done (some true)
-movedBy state (suc (suc (suc (suc m)))) = done none
+unfoldable pub movedByNo : ℕ → ℕ → Reading
+movedByNo state zero = inState state
+movedByNo state (suc zero) = inState (suc state)
+movedByNo state (suc (suc zero)) = done (some false)
+movedByNo state (suc (suc (suc zero))) = done (some true)
+movedByNo state (suc (suc (suc (suc m)))) = done none
 
 abbrev pub isComment : TokenKind → Bool
 isComment k = oneOf (kind.LineComment ∷ kind.BlockComment ∷ []) k

@@ -5,7 +5,7 @@ ghost use mathlib.Core.Bool.{true, false};
 ghost use Prim.Native.Nat.{_+_, _≤_, _<_};
 ghost use lib.ListN.{length, take, drop};
 ghost use Rattle.rules.specs.Switch.{inState, moved, checkFmtOff, turnBy, turnOf, switchAfter, switchedOn};
-ghost use Rattle.fmt_switch.specs.Of.{movedBy, isComment, saidOf, switchOf};
+ghost use Rattle.fmt_switch.specs.Of.{movedByNo, isComment, saidOf, switchOf};
 use rules::TokenKind;
 use rules::Turn;
 
@@ -48,7 +48,7 @@ pub enum Said {
 // The move of a state on a byte; 4 where it has none.
 fn move_on(state: usize, c: u8) -> u8
     requires { ⌜ state < 9 ⌝ }
-    ensures { λ r. ⌜ movedBy state r ≡ moved (inState state) c ⌝ }
+    ensures { λ r. ⌜ movedByNo state r ≡ moved (inState state) c ⌝ }
 {
     let end = ROWS[state + 1];
     let mut j = ROWS[state];
