@@ -141,7 +141,7 @@ use mathlib.Core.Path.{{_≡_, refl}}
 use mathlib.Core.List.{{List, [], _∷_, map}}
 use Rattle.rules.specs.Bytes.{{bytes}}
 use Rattle.rules.specs.Answer.{{Answer, laid, refusal}}
-use Rattle.rules.specs.Computed.{{Row, row, answered, wanted, computed}}"
+use Rattle.rules.specs.Computed.{{Row, row, given, wanted, computed}}"
     )
 }
 
@@ -159,7 +159,7 @@ fn claim(out: &mut impl Write, number: usize, rows: &[Row]) -> io::Result<()> {
         }
         write!(out, "\n    ∷ ")?;
     }
-    writeln!(out, "[]\n\nagree-{number} : map answered rows-{number} ≡ map wanted rows-{number}")?;
+    writeln!(out, "[]\n\nagree-{number} : map given rows-{number} ≡ map wanted rows-{number}")?;
     writeln!(out, "unfolding computed\nagree-{number} = refl")
 }
 

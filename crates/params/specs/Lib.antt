@@ -1,3 +1,4 @@
 pub mod Entries
 pub mod Found
 pub mod Shows
+pub mod Unique

@@ -29,8 +29,27 @@ abbrev pub wanted : Row → Answer
 wanted r = r .wanted
 
 unfoldable pub computed : List ℕ → ℕ → Answer
-unfolding wordAt placeAt countsOf kinds kindOf keyOf tokenFrom firstOf headWords tokenWords paramWords tokenPlaces paramPlaces keepPlaces bodyByte checkedAs checked part listOf indentFrom caseFrom limitFrom optionsOf keyRead tokensBefore nameOf valueOf paramsOf keepOf keepsOf envOf tokensOf indentOf trimmed newLine sortIn scan topLevelTokensInfo buildFrom buildInfo isInlineBlock isActive curLen beginsInline full beginIfPossible noIndentation noPrevious unfolded indentLevel increaseTop increaseBlockLevel popTop decreaseTopLevel popBlock decreaseBlockLevel markReserved markTopLevel setPreviousReserved setPreviousTopLevel lastReserved lastTopLevel previousReserved previousTopLevelReserved span valueIn byName byIndex entry get advances isRefused offends _↪_ fmtTable movedBy movedTo moved readAll switchAnswered checkFmtOff switchIn turnBy turnOf switchAfter switchedOn start onText onIndentation onInlineBlock onBlockLevel onIndex choose when refuseIf pushStr push trimSpacesEnd trimAllSpacesEnd oneBlank getIndent addNewLineInner addNewLine increaseTopLevel caseFor formatReservedWord pushReserved kindIs kindIn notWhite previousToken previousNonWhitespaceToken nextNonWhitespaceToken spanInfo whiteThenNoOperator afterLineFeed twoAfterComma formatLineComment formatTypeSpecifier formatBlockComment newTopLine formatTopLevelReservedWord formatTopLevelReservedWordNoIndent newlineBefore formatNewlineAfterReservedWord overLimit indentInlined afterLineComment formatNewlineReservedWord formatReserved formatWithSpaces formatWithSpaceAfter formatWithoutSpaces formatNoChange foldsIn cutsBefore blankBetween formatOpeningParentheses formatClosingParentheses formatPlaceholder spanWithin commaBreaks formatComma formatQuerySeparator formatByValue formatToken takenAs report unlessRefused finish formatFrom format answerAs answer reportOf bufferOf reported bufferAfter
+unfolding
+    wordAt placeAt countsOf kinds kindOf keyOf tokenFrom
+    firstOf headWords tokenWords paramWords tokenPlaces paramPlaces keepPlaces bodyByte checkedAs checked
+    part listOf indentFrom caseFrom limitFrom optionsOf keyRead tokensBefore nameOf valueOf paramsOf keepOf keepsOf envOf tokensOf
+    indentOf trimmed newLine
+    sortIn scan topLevelTokensInfo
+    buildFrom buildInfo isInlineBlock isActive curLen beginsInline full beginIfPossible
+    noIndentation noPrevious unfolded indentLevel increaseTop increaseBlockLevel popTop decreaseTopLevel popBlock decreaseBlockLevel markReserved
+    markTopLevel setPreviousReserved setPreviousTopLevel lastReserved lastTopLevel previousReserved previousTopLevelReserved span
+    valueIn byName byIndex entry get advances isRefused offends
+    _↪_ fmtTable movedBy movedTo moved readAll switchAnswered checkFmtOff switchIn turnBy turnOf switchAfter switchedOn
+    choose when
+    start onText onIndentation onInlineBlock onBlockLevel onIndex refuseIf pushStr push trimSpacesEnd trimAllSpacesEnd oneBlank getIndent addNewLineInner
+    addNewLine increaseTopLevel
+    caseFor formatReservedWord pushReserved kindIs kindIn notWhite previousToken previousNonWhitespaceToken nextNonWhitespaceToken spanInfo
+    whiteThenNoOperator afterLineFeed twoAfterComma formatLineComment formatTypeSpecifier formatBlockComment newTopLine formatTopLevelReservedWord
+    formatTopLevelReservedWordNoIndent newlineBefore formatNewlineAfterReservedWord overLimit indentInlined afterLineComment formatNewlineReservedWord
+    formatReserved formatWithSpaces formatWithSpaceAfter formatWithoutSpaces formatNoChange foldsIn cutsBefore blankBetween formatOpeningParentheses
+    formatClosingParentheses formatPlaceholder spanWithin commaBreaks formatComma formatQuerySeparator formatByValue formatToken
+    takenAs report unlessRefused finish formatFrom format answerAs answer reportOf bufferOf reported bufferAfter
 computed s room = answer s room
 
-abbrev pub answered : Row → Answer
-answered r = answer (r .sheet) (r .room)
+abbrev pub given : Row → Answer
+given r = answer (r .sheet) (r .room)

@@ -16,3 +16,4 @@ pub mod Answer
 pub mod Computed
 pub mod Encode
 pub mod Sheets
+pub mod Due

@@ -11,7 +11,7 @@ use Rattle.rules.specs.Tokens.{absent, named, Token}
 use Rattle.rules.specs.Sheet.{QueryParams, None, Indexed, Named}
 use Rattle.rules.specs.Encode.{encode}
 use Rattle.rules.specs.Answer.{Answer, laid, refusal}
-use Rattle.rules.specs.Computed.{Row, answered, wanted, computed}
+use Rattle.rules.specs.Computed.{Row, given, wanted, computed}
 
 -- ---- short names
 
@@ -98,6 +98,6 @@ starred =
     ∷ sheet (options 1 50 unset) None (bytes "is  null" ∷ []) isNull ample (text "is null" 1 7)
     ∷ []
 
-pub starred-right : map answered starred ≡ map wanted starred
+pub starred-right : map given starred ≡ map wanted starred
 unfolding computed encode
 starred-right = refl

@@ -3,6 +3,7 @@ ghost use mathlib.Core.Path.{_≡_};
 ghost use lib.ListN.{length};
 ghost use Rattle.rules.specs.Sheet.{envOf, tokensOf};
 ghost use Rattle.rules.specs.Answer.{refusal, format, reportOf, bufferOf, reported, bufferAfter};
+ghost use Rattle.rules.specs.Due.{Faithful};
 ghost use Rattle.records.specs.Sheeted.{Sheeted};
 ghost use Rattle.head.specs.Head.{headWritten, headReturned};
 use rules::Checked;
@@ -41,11 +42,12 @@ fn laid_out(sheet: &[u8], text: &mut [u8], c: Counts) -> Report
     formatter::format(text, sheet, x)
 }
 
-// The layout call: the answer in numbers, and in the buffer the text and zero after it, or zero alone.
+// The layout call: the answer in numbers, and in the buffer the text and zero after it, or zero alone; a text that is laid out is faithful (demand 3).
 #[no_mangle]
 pub extern "C" fn twigmantle_layout(sheet: &[u8], text: &mut [u8]) -> Report
     ensures { λ r. ⌜ r ≡ reported (now (sheet .entry)) (length (now (text .entry))) ⌝ }
     ensures { λ r. ⌜ now (text .exit) ≡ bufferAfter (now (sheet .entry)) (length (now (text .entry))) ⌝ }
+    ensures { λ r. ⌜ Faithful (now (sheet .entry)) r (now (text .exit)) ⌝ }
 {
     let found = checks::check(sheet);
     match found {

@@ -1,6 +1,7 @@
 use denote.Ref.{now}
 use Rattle.twigmantle.proofs.Laws.{sound-is, size-is, word-is, place-is, byte-is, by-report, by-buffer}
 use Rattle.checks.specs.Sound.{answer-sheeted}
+use Rattle.rules.proofs.Call.{call-faithful}
 use borrow.Author.Needs.{needs}
 use Rattle.twigmantle.proofs.twigmantle_layout.Statement.{statement}
 use Rattle.twigmantle.proofs.twigmantle_layout.Tie as tie
@@ -48,7 +49,9 @@ returns c =
     let e = c .before .before .before .before .before .found .given .1 in
     let laid = c .before .before .laid-out .ensures in
     let is = sound-is (now (start .args .sheet)) _ _ in
-    (by-report (now (start .args .sheet)) _ _ _ _ k e is _ (laid .0), by-buffer (now (start .args .sheet)) _ _ _ _ k e is _ (laid .1))
+    let told = by-report (now (start .args .sheet)) _ _ _ _ k e is _ (laid .0) in
+    let left = by-buffer (now (start .args .sheet)) _ _ _ _ k e is _ (laid .1) in
+    (told, (left, call-faithful (now (start .args .sheet)) _ _ _ told left))
 
 same-length-2 : tie.Need-same-length-2
 same-length-2 c = search needs
@@ -60,7 +63,9 @@ returns-2 c =
     let e = c .before .before .before .before .enum-told .given .1 in
     let laid = c .before .before .refused .ensures in
     let is = size-is (now (start .args .sheet)) _ in
-    (by-report (now (start .args .sheet)) _ _ _ _ k e is _ (laid .0), by-buffer (now (start .args .sheet)) _ _ _ _ k e is _ (laid .1))
+    let told = by-report (now (start .args .sheet)) _ _ _ _ k e is _ (laid .0) in
+    let left = by-buffer (now (start .args .sheet)) _ _ _ _ k e is _ (laid .1) in
+    (told, (left, call-faithful (now (start .args .sheet)) _ _ _ told left))
 
 same-length-3 : tie.Need-same-length-3
 same-length-3 c = search needs
@@ -72,7 +77,9 @@ returns-3 c =
     let e = c .before .before .before .before .before .found2 .given .1 in
     let laid = c .before .before .refused2 .ensures in
     let is = word-is (now (start .args .sheet)) _ _ in
-    (by-report (now (start .args .sheet)) _ _ _ _ k e is _ (laid .0), by-buffer (now (start .args .sheet)) _ _ _ _ k e is _ (laid .1))
+    let told = by-report (now (start .args .sheet)) _ _ _ _ k e is _ (laid .0) in
+    let left = by-buffer (now (start .args .sheet)) _ _ _ _ k e is _ (laid .1) in
+    (told, (left, call-faithful (now (start .args .sheet)) _ _ _ told left))
 
 same-length-4 : tie.Need-same-length-4
 same-length-4 c = search needs
@@ -84,7 +91,9 @@ returns-4 c =
     let e = c .before .before .before .before .before .found3 .given .1 in
     let laid = c .before .before .refused3 .ensures in
     let is = place-is (now (start .args .sheet)) _ _ in
-    (by-report (now (start .args .sheet)) _ _ _ _ k e is _ (laid .0), by-buffer (now (start .args .sheet)) _ _ _ _ k e is _ (laid .1))
+    let told = by-report (now (start .args .sheet)) _ _ _ _ k e is _ (laid .0) in
+    let left = by-buffer (now (start .args .sheet)) _ _ _ _ k e is _ (laid .1) in
+    (told, (left, call-faithful (now (start .args .sheet)) _ _ _ told left))
 
 same-length-5 : tie.Need-same-length-5
 same-length-5 c = search needs
@@ -96,7 +105,9 @@ returns-5 c =
     let e = c .before .before .before .before .before .found4 .given .1 in
     let laid = c .before .before .refused4 .ensures in
     let is = byte-is (now (start .args .sheet)) _ _ in
-    (by-report (now (start .args .sheet)) _ _ _ _ k e is _ (laid .0), by-buffer (now (start .args .sheet)) _ _ _ _ k e is _ (laid .1))
+    let told = by-report (now (start .args .sheet)) _ _ _ _ k e is _ (laid .0) in
+    let left = by-buffer (now (start .args .sheet)) _ _ _ _ k e is _ (laid .1) in
+    (told, (left, call-faithful (now (start .args .sheet)) _ _ _ told left))
 
 pub twigmantle-layout-spec : {M : Type 1} → statement M
 twigmantle-layout-spec =

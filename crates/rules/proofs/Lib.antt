@@ -1,5 +1,6 @@
-pub mod Due
 pub mod Strip
+pub mod Own
 pub mod Adds
 pub mod Keeps
 pub mod Call
+pub mod Tables

@@ -7,17 +7,17 @@ use Prim.Native.Nat.{ℕ, suc, _+_}
 use native.Mathlib.Omega.{arith}
 use lib.Dec.{eqb, leb}
 use lib.ListN.{length}
 use Rattle.rules.specs.declared.SpanInfo.{SpanInfo}
 use Rattle.rules.specs.declared.BlockInfo.{BlockInfo}
 use Rattle.rules.specs.Base.{if_then_else_, choose, when}
 use Rattle.rules.specs.Tokens.{Token, Here}
 use Rattle.rules.specs.Sheet.{Env}
 use Rattle.rules.specs.Text.{isBlank, isWhite, trimEnd, lastOr, Text, fits, refused, change, append, lineFeed, refuse, newLine, cutBlanks}
 use Rattle.rules.specs.Indentation.{Indentation}
 use Rattle.rules.specs.State.{State, refuseIf, trimSpacesEnd, trimAllSpacesEnd, pushStr, push, oneBlank, onText, onIndentation, onInlineBlock, onBlockLevel, addNewLine, addNewLineInner, getIndent, increaseTopLevel}
 use Rattle.rules.specs.Formatter.{formatReservedWord, pushReserved, formatLineComment, formatTypeSpecifier, formatBlockComment, newTopLine, formatTopLevelReservedWord, formatTopLevelReservedWordNoIndent, formatNewlineAfterReservedWord, indentInlined, formatNewlineReservedWord, formatReserved, formatWithSpaces, formatWithSpaceAfter, formatWithoutSpaces, formatOpeningParentheses, formatClosingParentheses, formatComma, formatQuerySeparator, formatByValue}
-use Rattle.faithful.specs.Due.{strip}
-use Rattle.faithful.specs.Strip.{strip-append, strip-trimEnd, blank-white, strip-equalize, strip-indentComment, strip-indent, strip-replicate}
+use Rattle.rules.specs.Due.{white, strip}
+use Rattle.rules.proofs.Strip.{white-true, strip-append, strip-trimEnd, blank-white, strip-equalize, strip-indentComment, strip-indent, strip-replicate}
 
 -- from a text to the next, v is added; a refusal has a number, and stays
 abbrev pub Grown : Text → Text → List ℕ → Type 0
@@ -70,7 +70,7 @@ maybe false f {s} p = same-text refl refl
 
 -- ---- steps on the text
 
-grown-trim : (p : ℕ → Bool) → ((x : ℕ) → p x ≡ true → isWhite x ≡ true) → (t : Text) → Grown t (change (trimEnd p) t) []
+grown-trim : (p : ℕ → Bool) → ((x : ℕ) → p x ≡ true → white x ≡ true) → (t : Text) → Grown t (change (trimEnd p) t) []
 grown-trim p w (fits b) = strip-trimEnd p w b ∙ sym (append-nil (strip b))
 grown-trim p w (refused n) = refl
 
@@ -80,7 +80,7 @@ trims {s} = record { grown = grown-trim isBlank blank-white (s .text); counted =
 
 pub trimsAll : {s : State} → Adds s (trimAllSpacesEnd s) []
 unfolding trimAllSpacesEnd onText
-trimsAll {s} = record { grown = grown-trim isWhite (λ x e. e) (s .text); counted = refl }
+trimsAll {s} = record { grown = grown-trim isWhite white-true (s .text); counted = refl }
 
 grown-append : (room : ℕ) (v : List ℕ) (t : Text) → Grown t (append room v t) (strip v)
 grown-append room v (refused n) = refl
