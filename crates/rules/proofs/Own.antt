@@ -110,7 +110,7 @@ numbered-is vs n = go (n .0)
   where
     go : (m : ℕ) → byIndex vs (fromOne (record { 0 = m })) ≡ oneBased vs m
     go zero = refl
-    go (suc m) = rw (eqb·suc-zero m, sub-one)
+    go (suc m) = rw (eqb·suc-zero m) (ap (nth? vs) (sub-one (suc m)))
 
 entry-is : (ps : QueryParams) (k : Key) (i : ℕ) → entry ps k i ≡ entryOf ps k i
 unfolding entry byIndex

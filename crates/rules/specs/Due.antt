@@ -1,5 +1,5 @@
 -- Demand 3 in its own words: what is due of a sheet, white bytes taken out. With the rules of the layout it shares the declared types, the reading of a
--- sheet, the lists of `Base`, and the recogniser of a switch comment's bytes (`checkFmtOff`); nothing else.
+-- sheet, the lists of `Base`, the bytes of a quoted text, and the recogniser of a switch comment's bytes (`checkFmtOff`); nothing else.
 use mathlib.Core.Path.{_≡_}
 use mathlib.Core.Bool.{Bool, true, false, not}
 use mathlib.Core.Option.{Option, none, some}
