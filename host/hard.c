@@ -166,9 +166,9 @@ static void noise(void)
             continue;
         uint32_t n = under((uint32_t)(length - 48) / 20 + 1), b = (uint32_t)length - 48 - 20 * n;
         memset(made, 0, 48);
-        put(made, 4 * TWIGMANTLE_TOKENS, n);
-        put(made, 4 * TWIGMANTLE_BYTES, b);
-        put(made, 4 * (TWIGMANTLE_MODE + under(8)), under(300));
+        put(made, 4 * TWIGMANTLE_HEAD_TOKENS, n);
+        put(made, 4 * TWIGMANTLE_HEAD_BODY, b);
+        put(made, 4 * (TWIGMANTLE_HEAD_MODE + under(8)), under(300));
         if (lay(under(80)).refusal == 1)
             wrong("counts that fit, and refused with 1", 0);
     }
