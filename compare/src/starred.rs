@@ -169,6 +169,9 @@ fn deep_sheets() -> Vec<Case> {
         sheet.tokens.push(Token::new(kind, value));
         with(sheet, |o| o.top_level = top_level)
     };
+    // The dropped word is the one before the bracket, which gets a blank: the full buffer has no room for it.
+    let mut switched = deep(LINE_COMMENT, "-- fmt: on");
+    switched.tokens.extend([Token::new(RESERVED, "as"), Token::new(OPEN, "(")]);
     vec![
         at("6 before 9 at a bracket", deep(OPEN, "("), full, refusal(6, 128)),
         at("9 before 6, newline-after", set(), full + 2, refusal(9, 128)),
@@ -176,6 +179,7 @@ fn deep_sheets() -> Vec<Case> {
         at("9 before 6, top level", top(WORD, "a", 0), full, refusal(9, 128)),
         at("6 after the word, top level", top(WORD, "a", 0), full + 1, refusal(6, 128)),
         at("6 before 9, newline", top(NEWLINE, "AND", 9), full + 2, refusal(6, 129)),
+        at("6 before the blank of a bracket", switched, full, refusal(6, 130)),
     ]
 }
 
@@ -213,7 +217,20 @@ pub fn run() -> bool {
     let sheets = count(parts.into_iter().flatten().collect(), "document 01's sheets");
     let further =
         count([deep_sheets(), further_sheets()].into_iter().flatten().collect(), "further sheets");
-    sheets && further
+    sheets && further && head()
+}
+
+/// The call's default head, where it is linked.
+fn head() -> bool {
+    #[cfg(feature = "call")]
+    match crate::call::head_is_the_rusts() {
+        Ok(()) => println!("the default head: the Rust's"),
+        Err(difference) => {
+            println!("{difference}");
+            return false;
+        }
+    }
+    true
 }
 
 fn count(cases: Vec<Case>, what: &str) -> bool {
@@ -225,10 +242,23 @@ fn count(cases: Vec<Case>, what: &str) -> bool {
 fn is_right(case: &Case) -> bool {
     let bytes = case.sheet.encode(&mut in_turn);
     let model = model::answer(&bytes, case.room);
-    let right = model == case.wanted && rust_agrees(case, &bytes);
+    let right = model == case.wanted && rust_agrees(case, &bytes) && call_agrees(case, &bytes);
     if !right {
         println!("sheet {}: wanted {}", case.name, show::answer(&case.wanted));
         println!("model {}\nRust {}", show::answer(&model), show::rust(&bytes));
+    }
+    right
+}
+
+/// The proved call, where it is linked.
+fn call_agrees(case: &Case, bytes: &[u8]) -> bool {
+    #[cfg(feature = "call")]
+    let (whose, got) = ("call", crate::call::answer(bytes, case.room));
+    #[cfg(not(feature = "call"))]
+    let (whose, got) = ("model", Ok::<_, String>(model::answer(bytes, case.room)));
+    let right = got.as_ref() == Ok(&case.wanted);
+    if !right {
+        println!("the {whose}: {}", got.map_or_else(|said| said, |got| show::answer(&got)));
     }
     right
 }
