@@ -167,6 +167,6 @@ int main(void)
             fprintf(stderr, "%" PRIu64 "\n", turn);
     }
     free(line);
-    printf("%" PRIu64 " sheets, %" PRIu64 " texts, no difference\n", turn, texts);
-    return turn == 0 || texts == 0;
+    printf("%" PRIu64 " sheets, %" PRIu64 " texts, %s\n", turn, texts, texts > 0 ? "no difference" : "too few to judge by");
+    return texts == 0;
 }

@@ -275,7 +275,8 @@ static void nulls(void)
 {
     static const uint8_t head[48] = {[20] = 2};
     uint8_t text[3] = {1, 2, 3};
-    stage = "null";
+    stage = "null pointers with length 0";
+    room_now = length = 0;
     struct twigmantle_report none = twigmantle_layout(NULL, 0, NULL, 0), sheet = twigmantle_layout(NULL, 0, text, 3), room = twigmantle_layout(head, 48, NULL, 0);
     if (none.refusal != 1 || sheet.refusal != 1 || text[0] + text[1] + text[2] != 0 || room.refusal != 0 || twigmantle_default_head(NULL, 0) != 0)
         wrong("another answer than for no bytes");
@@ -312,8 +313,8 @@ int main(int argc, char **argv)
     watch();
     alarm(SECONDS);
     heads();
-    nulls();
     known_sheets(expected);
+    nulls();
     stage = "random";
     for (turn = 0; turn < turns; turn++) {
         alarm(SECONDS);
