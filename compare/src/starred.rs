@@ -183,6 +183,20 @@ fn deep_sheets() -> Vec<Case> {
     ]
 }
 
+/// What counts for 6, and that it comes before 7: the Rust has neither bound.
+fn full_sheets() -> Vec<Case> {
+    let at = |name, sheet, wanted| Case { name, sheet, room: ROOM, wanted };
+    let inline = |count| with(of(&vec![(OPEN, "("); count]), |o| o.block = 40000);
+    let mut tokens = [(TOP_LEVEL, "T"), (OPEN, "(")].repeat(64);
+    tokens.extend([(TOP_LEVEL, "T"), (WORD, "a")]);
+    let folded = with(of(&tokens), |o| (o.block, o.top_level, o.indent) = (0, 0, 0));
+    vec![
+        at("128 inline brackets", inline(128), text(&["(".repeat(128).as_str()])),
+        at("6 before 7", inline(129), refusal(6, 128)),
+        at("6 counts folded entries", folded, refusal(6, 128)),
+    ]
+}
+
 /// The same for 5, 8 and 9, and two cases that document 01's sheets leave out.
 fn further_sheets() -> Vec<Case> {
     let at = |name, sheet, room, wanted| Case { name, sheet, room, wanted };
@@ -207,16 +221,18 @@ fn further_sheets() -> Vec<Case> {
 /// Every sheet of this file with its buffer.
 pub fn sheets() -> Vec<(Vec<u8>, usize)> {
     let parts = [plain_sheets(), placeholder_sheets(), bracket_sheets(), word_sheets()];
-    let further = [deep_sheets(), further_sheets()];
-    let cases = parts.into_iter().chain(further).flatten();
+    let cases = parts.into_iter().chain(further_parts()).flatten();
     cases.map(|case| (case.sheet.encode(&mut in_turn), case.room)).collect()
+}
+
+fn further_parts() -> [Vec<Case>; 3] {
+    [deep_sheets(), full_sheets(), further_sheets()]
 }
 
 pub fn run() -> bool {
     let parts = [plain_sheets(), placeholder_sheets(), bracket_sheets(), word_sheets()];
     let sheets = count(parts.into_iter().flatten().collect(), "document 01's sheets");
-    let further =
-        count([deep_sheets(), further_sheets()].into_iter().flatten().collect(), "further sheets");
+    let further = count(further_parts().into_iter().flatten().collect(), "further sheets");
     sheets && further && head()
 }
 
