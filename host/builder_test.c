@@ -11,7 +11,7 @@
 #include "judge.h"
 #include "random_sheet.h"
 
-enum { SOURCE = 4096 };
+enum { SOURCE = 4096, MANY = 50 };
 
 static struct pages pages;
 static char source[SOURCE], whole[TWIGMANTLE_MOST_BODY + 1];
@@ -281,7 +281,7 @@ int main(int argc, char **argv)
         printf(" %" PRIu64, faults[i]);
     printf("\n");
     for (int i = 0; i <= SHEET_ROOM; i++)
-        if (faults[i] == 0 && turns > 0)
+        if (faults[i] == 0 && turns >= MANY)
             return printf("a fault that no plan met: %d\n", i), 1;
-    return texts == 0 && turns > 0;
+    return texts == 0 && turns >= MANY;
 }
