@@ -4,6 +4,7 @@ use std::path::{Path, PathBuf};
 use std::{env, fs};
 
 const PARTS: [&str; 4] = ["formatter", "indentation", "inline_block", "params"];
+const DEFAULTS: &str = "impl<'a> Default for FormatOptions<'a> {";
 const NEXT_TOKEN: &str = "formatter.index = index;";
 
 fn main() {
@@ -14,11 +15,13 @@ fn main() {
         .unwrap_or_else(|e| panic!("no Rust source at {given:?} ({e}): set TWIGMANTLE_RUST"));
     println!("cargo:rerun-if-env-changed=TWIGMANTLE_RUST");
     println!("cargo:rerun-if-changed=build.rs");
+    println!("cargo:rerun-if-env-changed=TWIGMANTLE_LIB");
     if env::var_os("CARGO_FEATURE_CALL").is_some() {
-        link(&home.join("../target/staticlib"));
+        let given = env::var_os("TWIGMANTLE_LIB").unwrap_or("../target/staticlib".into());
+        link(&home.join(given));
     }
 
-    let mut root = String::new();
+    let mut root = defaults(&source.join("lib.rs"));
     for part in PARTS {
         let file = source.join(part).with_extension("rs");
         println!("cargo:rerun-if-changed={}", file.display());
@@ -37,6 +40,15 @@ fn link(folder: &Path) {
     println!("cargo:rustc-link-search=native={}", folder.display());
     println!("cargo:rustc-link-lib=static=twigmantle");
     println!("cargo:rerun-if-changed={}", library.display());
+}
+
+/// The Rust's own default options, as its `lib.rs` writes them.
+fn defaults(file: &Path) -> String {
+    println!("cargo:rerun-if-changed={}", file.display());
+    let text = fs::read_to_string(file).expect("lib.rs can be read");
+    let from = text.find(DEFAULTS).expect("lib.rs is not the known one");
+    let length = text[from..].find("\n}\n").expect("lib.rs is not the known one") + 3;
+    text[from..from + length].to_owned()
 }
 
 fn module(name: &str, file: &Path) -> String {

@@ -1,81 +1,66 @@
-/* A sheet as the desk builds one: the SQL that fetched a caller's notes, with the call ID and the line number filled in. */
+/* A host as the desk has it: the SQL that fetched a caller's notes, with the call ID and the line number filled in. What a new host copies, with builder.h,
+ * builder.c and twigmantle.h. */
 #include <inttypes.h>
 #include <stdio.h>
-#include <string.h>
 
-#include "twigmantle.h"
-
-enum kind { WHITE = 1, TOP_LEVEL = 4, NEWLINE = 6, OPERATOR = 8, PLACEHOLDER = 14, WORD = 15 };
-
-struct token {
-    enum kind kind;
-    const char *value;
-};
-
-static const struct token QUERY[] = {
-    {TOP_LEVEL, "SELECT"}, {WHITE, " "}, {WORD, "note"},  {WHITE, " "}, {TOP_LEVEL, "FROM"}, {WHITE, " "}, {WORD, "notes"}, {WHITE, " "},
-    {TOP_LEVEL, "WHERE"},  {WHITE, " "}, {WORD, "call_id"}, {WHITE, " "}, {OPERATOR, "="},   {WHITE, " "}, {PLACEHOLDER, "?"}, {WHITE, " "},
-    {NEWLINE, "and"},      {WHITE, " "}, {WORD, "line"},  {WHITE, " "}, {OPERATOR, "="},     {WHITE, " "}, {PLACEHOLDER, "?"},
-};
-static const char *const PARAMS[] = {"48213", "7"};
+#include "builder.h"
 
 #define COUNT(a) (sizeof(a) / sizeof((a)[0]))
+#define VALUE(s) {s, sizeof(s) - 1}
+#define TOKEN(k, s) {.kind = TWIGMANTLE_KIND_##k, .value = VALUE(s)}
+#define BLANK TOKEN(WHITESPACE, " ")
 
-static void put(uint8_t *sheet, size_t at, uint32_t word)
+static const struct sheet_token QUERY[] = {
+    TOKEN(RESERVED_TOP_LEVEL, "SELECT"), BLANK, TOKEN(WORD, "note"),    BLANK, TOKEN(RESERVED_TOP_LEVEL, "FROM"), BLANK, TOKEN(WORD, "notes"),    BLANK,
+    TOKEN(RESERVED_TOP_LEVEL, "WHERE"),  BLANK, TOKEN(WORD, "call_id"), BLANK, TOKEN(OPERATOR, "="),              BLANK, TOKEN(PLACEHOLDER, "?"), BLANK,
+    TOKEN(RESERVED_NEWLINE, "and"),      BLANK, TOKEN(WORD, "line"),    BLANK, TOKEN(OPERATOR, "="),              BLANK, TOKEN(PLACEHOLDER, "?"),
+};
+static const struct sheet_param PARAMS[] = {{.value = VALUE("48213")}, {.value = VALUE("7")}};
+
+static uint8_t sheet[TWIGMANTLE_MOST_SHEET]; /* never too short for a sheet */
+static uint8_t text[1 << 20];                /* the most that this host lends */
+
+static size_t build(void)
 {
-    for (int i = 0; i < 4; i++)
-        sheet[at + (size_t)i] = (uint8_t)(word >> (8 * i));
+    struct sheet_plan plan = {.options = sheet_default_options(), .mode = TWIGMANTLE_MODE_INDEXED};
+    plan.options.letter_case = TWIGMANTLE_CASE_UPPER;
+    plan.tokens = QUERY;
+    plan.token_count = COUNT(QUERY);
+    plan.params = PARAMS;
+    plan.param_count = COUNT(PARAMS);
+    struct sheet_built built = sheet_build(&plan, sheet, sizeof sheet);
+    if (built.fault != SHEET_BUILT)
+        printf("not built: fault %d in list %d at %zu\n", (int)built.fault, (int)built.part, built.index);
+    return built.length;
 }
 
-/* Appends a value to the bodies and writes its place. */
-static size_t place(uint8_t *sheet, size_t at, size_t base, size_t body, const char *value)
+/* Lends so much, and at refusal 9 twice as much, up to all there is. The last answer is the sheet's. */
+static struct twigmantle_report lay_out(size_t n, size_t room)
 {
-    size_t n = strlen(value);
-    put(sheet, at, (uint32_t)body);
-    put(sheet, at + 4, (uint32_t)n);
-    memcpy(sheet + base + body, value, n);
-    return body + n;
-}
-
-/* The sheet's length. */
-static size_t build(uint8_t *sheet, size_t room)
-{
-    size_t tokens = COUNT(QUERY), params = COUNT(PARAMS), body = 0;
-    size_t base = TWIGMANTLE_HEAD + 20 * tokens + 16 * params;
-    memset(sheet, 0, room);
-    twigmantle_default_head(sheet, TWIGMANTLE_HEAD);
-    for (size_t i = 0; i < tokens; i++) {
-        size_t at = TWIGMANTLE_HEAD + 20 * i;
-        put(sheet, at, (uint32_t)QUERY[i].kind);
-        body = place(sheet, at + 4, base, body, QUERY[i].value);
-    }
-    for (size_t i = 0; i < params; i++)
-        body = place(sheet, TWIGMANTLE_HEAD + 20 * tokens + 16 * i + 8, base, body, PARAMS[i]);
-    put(sheet, 4 * TWIGMANTLE_TOKENS, (uint32_t)tokens);
-    put(sheet, 4 * TWIGMANTLE_PARAMS, (uint32_t)params);
-    put(sheet, 4 * TWIGMANTLE_BYTES, (uint32_t)body);
-    put(sheet, 4 * TWIGMANTLE_MODE, 1);
-    put(sheet, 4 * TWIGMANTLE_CASE, 1);
-    return base + body;
-}
-
-static void show(const uint8_t *sheet, size_t n, size_t room)
-{
-    static uint8_t text[1024];
     struct twigmantle_report r = twigmantle_layout(sheet, n, text, room);
-    if (r.refusal != 0)
-        printf("refused %" PRIu32 " at %" PRIu64 "%s\n", r.refusal, r.place, r.refusal < 5 ? " (byte of the sheet)" : " (token)");
+    while (r.refusal == TWIGMANTLE_REFUSAL_ROOM && room < sizeof text) {
+        printf("refused 9 at %" PRIu64 ": %zu bytes were too few\n", r.place, room);
+        room = room < sizeof text / 2 ? 2 * room : sizeof text;
+        r = twigmantle_layout(sheet, n, text, room);
+    }
+    return r;
+}
+
+static void show(struct twigmantle_report r)
+{
+    if (r.refusal != TWIGMANTLE_REFUSAL_NONE)
+        printf("refused %" PRIu32 " at %" PRIu64 " (%s)\n", r.refusal, r.place, r.refusal <= TWIGMANTLE_REFUSAL_BYTE ? "byte of the sheet" : "token");
     else
         printf("%.*s\n(%" PRIu64 " bytes, %" PRIu64 " lines, %" PRIu64 " wide)\n", (int)r.length, (const char *)text, r.length, r.lines, r.width);
 }
 
 int main(void)
 {
-    static uint8_t sheet[4096];
-    size_t n = build(sheet, sizeof sheet);
-    show(sheet, n, 1024);
-    show(sheet, n, 40); /* too short a buffer */
-    put(sheet, 4 * TWIGMANTLE_CASE, 3);
-    show(sheet, n, 1024); /* a word that is not allowed */
+    size_t n = build();
+    if (n == 0)
+        return 1;
+    show(lay_out(n, 40)); /* a real host starts with more */
+    sheet[TWIGMANTLE_SIZE_WORD * TWIGMANTLE_HEAD_CASE] = 3;
+    show(lay_out(n, sizeof text)); /* a sheet that was damaged on its way */
     return 0;
 }

@@ -1,67 +1,118 @@
-/* Hard use of the calls: random and damaged sheets, sheets of every length, buffers of every length around the need.
+/* Hard use of the calls: sheets whose answer is known; random and damaged sheets, sheets of every length, buffers of every length around the need.
  *
- *     hard [N [SEED]]        N sheets (20,000) from a seed (1)
+ *     hard [N [SEED]]        N random sheets (20,000) from a seed (1)
  *
- * The sheet and the buffer of a call lie at the fences of fence.h, in turn in each way that it has. The first wrong thing is said, its sheet is saved as
- * hard.sheet (compare show reads it), and the program ends with 1. */
-#define _DEFAULT_SOURCE
+ * The sheet and the buffer of a call lie at the fences of fence.h, in turn in each way that it has; a sheet there may only be read. Every answer is held to
+ * judge.h. The first wrong thing is said, its sheet is saved as hard.sheet (compare show reads it), and the program ends with 1. */
+#define _GNU_SOURCE
 #include <fcntl.h>
 #include <inttypes.h>
 #include <signal.h>
 
 #include "fence.h"
+#include "judge.h"
+#include "known.h"
 #include "random_sheet.h"
 
-enum { AMPLE = 1 << 16, MOST_ROOM = 1 << 22, LONGER = 64, SECONDS = 60 };
+enum { AMPLE = 1 << 16, MOST_ROOM = 1 << 22, LONGER = 64, SECONDS = 60, MANY = 5000 };
 
 static struct pages sheets, texts;
 static uint8_t made[LONGEST + LONGER], text_now[MOST_ROOM], text_first[MOST_ROOM];
-static size_t length; /* the made sheet's */
+static size_t length, room_now; /* of the made sheet, and of the buffer */
+static enum where where_now;
+static const char *stage = "the default head";
 static uint64_t turn, calls, too_short, counts[10];
 
-static void save(void)
+/* A line put together without stdio, for it may be said in the middle of a call. */
+static char line[512];
+static size_t said;
+
+static void say(const char *what)
 {
-    int file = open("hard.sheet", O_WRONLY | O_CREAT | O_TRUNC, 0644);
-    if (file < 0 || write(file, made, length) != (ssize_t)length || close(file) != 0)
-        _exit(2);
+    while (*what != 0 && said < sizeof line)
+        line[said++] = *what++;
 }
 
-static void wrong(const char *what, size_t room)
+static void say_number(uint64_t n)
 {
-    printf("sheet %" PRIu64 " of %zu bytes, buffer of %zu: %s\n", turn, length, room, what);
-    save();
-    exit(1);
+    char digits[21], *at = digits + 20;
+    *at = 0;
+    do
+        *--at = (char)('0' + n % 10);
+    while ((n /= 10) > 0);
+    say(at);
+}
+
+/* Says what is wrong in which turn, with which buffer and at which fence, saves the sheet, and ends. */
+static void wrong(const char *what)
+{
+    say(stage);
+    say(", turn ");
+    say_number(turn);
+    say(": a sheet of ");
+    say_number(length);
+    say(" bytes, a buffer of ");
+    say_number(room_now);
+    say(", each ");
+    say(WHERE[where_now]);
+    say(": ");
+    say(what);
+    say("\n");
+    int file = open("hard.sheet", O_WRONLY | O_CREAT | O_TRUNC, 0644);
+    int saved = file >= 0 && write(file, made, length) == (ssize_t)length && close(file) == 0;
+    _exit(write(1, line, said) == (ssize_t)said && saved ? 1 : 2);
+}
+
+/* Which of these pages the byte is in or beside. */
+static const char *beside(const struct pages *pages, const uint8_t *at, const char *before, const char *in, const char *after)
+{
+    if (at < pages->start - pages->page || at >= pages->end + pages->page)
+        return NULL;
+    return at < pages->start ? before : at < pages->end ? in : after;
 }
 
 /* Comes in the middle of a call: nothing here that a signal's handler may not do. */
-static void caught(int signal)
+static void caught(int number, siginfo_t *info, void *context)
 {
-    static const char stray[] = "a byte outside the sheet and the buffer was touched\n", late[] = "a call did not end\n";
-    ssize_t n = signal == SIGALRM ? write(1, late, sizeof late - 1) : write(1, stray, sizeof stray - 1);
-    save();
-    _exit(n > 0 ? 1 : 2);
+    const uint8_t *at = info->si_addr;
+    (void)context;
+    if (number == SIGALRM)
+        wrong("the call did not end");
+    if (number != SIGSEGV && number != SIGBUS) {
+        say("signal ");
+        say_number((uint64_t)number);
+        say(" in ");
+        wrong("the call stopped");
+    }
+    const char *sheet = beside(&sheets, at, "a byte before the sheet was touched", "the sheet was written to", "a byte after the sheet was touched");
+    const char *text = beside(&texts, at, "a byte before the buffer was touched", "the buffer", "a byte after the buffer was touched");
+    wrong(sheet != NULL ? sheet : text != NULL ? text : "a byte far from the sheet and the buffer was touched");
 }
 
-/* Places must lie within the sheet; lines and width are counted again, so that every byte of the text is read. */
+/* The numbers go together, the text is what is due, and zero follows it. Lines and width are counted again, so that every byte of the text is read. */
 static const char *fault(struct twigmantle_report r, const uint8_t *text, size_t room)
 {
+    struct offence offence = first_offence(made, length);
     uint64_t lines = r.length > 0, width = 0, run = 0;
-    size_t tokens = made[0] + ((size_t)made[1] << 8);
     if (r.refusal > 9 || r.length > room)
         return "a number out of range";
-    if (r.place != 0 && r.place >= (r.refusal > 4 ? tokens : r.refusal > 1 ? length : 0))
-        return "a place out of range";
+    if (offence.refusal != 0 ? r.refusal != offence.refusal || r.place != offence.place : r.refusal > 0 && r.refusal < 5)
+        return "another answer of checks 1 to 4";
+    if (offence.refusal == 0 && r.refusal != 0 && !can_be_refused(made, r.refusal, r.place, room))
+        return "a refusal that this token cannot have";
     for (size_t i = 0; i < r.length; i++) {
         lines += text[i] == '\n';
         run = text[i] == '\n' ? 0 : run + 1;
         width = run > width ? run : width;
     }
-    if ((r.refusal != 0 && r.length != 0) || r.lines != lines || r.width != width)
+    if ((r.refusal != 0 && r.length != 0) || (r.refusal == 0 && r.place != 0) || r.lines != lines || r.width != width)
         return "counts that are not the text's";
+    if (r.length > 0 && (is_white(text[0]) || is_white(text[r.length - 1])))
+        return "white at an end of the text";
     for (size_t i = (size_t)r.length; i < room; i++)
         if (text[i] != 0)
             return "a byte after the text that is not zero";
-    return NULL;
+    return r.refusal == 0 && !is_due(made, text, (size_t)r.length) ? "a text that is not what is due" : NULL;
 }
 
 /* One call on the sheet in `made`; its text is left in `text_now`. */
@@ -69,19 +120,36 @@ static struct twigmantle_report lay(size_t room)
 {
     enum where where = calls++ % WAYS;
     uint8_t *sheet = lend(&sheets, length, where), *text = lend(&texts, room, where);
-    memcpy(sheet, made, length);
+    if (length > 0)
+        memcpy(own_of(&sheets, sheet, where), made, length);
     if (where != HEAP)
         memset(text, (int)under(256), room);
+    room_now = room;
+    where_now = where;
     struct twigmantle_report r = twigmantle_layout(sheet, length, text, room);
     const char *what = fault(r, text, room);
-    if (what == NULL && memcmp(sheet, made, length) != 0)
+    if (what == NULL && length > 0 && memcmp(sheet, made, length) != 0)
         what = "the sheet was written to";
     if (what != NULL)
-        wrong(what, room);
+        wrong(what);
     memcpy(text_now, text, (size_t)r.length);
     give_back(sheet, where);
     give_back(text, where);
     return r;
+}
+
+/* A sheet of known.h, in each way of lending. */
+static void expected(const char *name, const struct sheet_plan *plan, size_t room, struct wanted wanted)
+{
+    stage = name;
+    length = sheet_build(plan, made, sizeof made).length;
+    for (int way = 0; way < WAYS; way++) {
+        struct twigmantle_report r = lay(room);
+        if (r.refusal != wanted.refusal || r.place != wanted.place)
+            wrong("another number or place than is known");
+        if (wanted.text != NULL && (r.length != strlen(wanted.text) || memcmp(text_now, wanted.text, (size_t)r.length) != 0))
+            wrong("another text than is known");
+    }
 }
 
 /* The least buffer that is not refused with 9: at least the text's length, and more where the working text was longer than it was left. */
@@ -108,10 +176,10 @@ static uint64_t at_room(size_t room, size_t need, struct twigmantle_report ample
     struct twigmantle_report r = lay(room);
     too_short += r.refusal == 9;
     if (room < need && r.refusal != 9)
-        wrong("less than the least room, and not refused with 9", room);
+        wrong("less than the least room, and not refused with 9");
     int same = r.refusal == ample.refusal && r.place == ample.place && r.length == ample.length;
     if (room >= need && (!same || memcmp(text_now, text_first, (size_t)r.length) != 0))
-        wrong("another answer for another buffer", room);
+        wrong("another answer for another buffer");
     return room < need ? r.place : UINT64_MAX;
 }
 
@@ -129,7 +197,7 @@ static void rooms(void)
         for (size_t room = 0; room <= need + 8; room++) {
             uint64_t place = at_room(room, need, ample);
             if (place < last)
-                wrong("more room, and an earlier token is refused", room);
+                wrong("more room, and an earlier token is refused");
             last = place;
         }
     } else {
@@ -139,16 +207,14 @@ static void rooms(void)
     }
 }
 
-/* Every length from 0 to past the sheet's own: all but that one are refused by their size. */
+/* Every length from 0 to past the sheet's own: judge.h refuses all but that one by their size. */
 static void lengths(void)
 {
     size_t whole = length;
     for (length = 0; length <= whole + LONGER; length++) {
         if (length > whole)
             made[length - 1] = (uint8_t)under(256);
-        struct twigmantle_report r = lay(under(80));
-        if (length != whole && (r.refusal != 1 || r.place != 0))
-            wrong("a wrong length, and not refused with 1 at 0", 0);
+        lay(under(80));
     }
     length = whole;
 }
@@ -159,52 +225,97 @@ static void noise(void)
     for (length = 0; length <= 200; length++) {
         for (size_t i = 0; i < length; i++)
             made[i] = (uint8_t)under(one_in(2) ? 256 : 2);
-        struct twigmantle_report r = lay(under(80));
-        if (length < 48 && (r.refusal != 1 || r.place != 0))
-            wrong("under 48 bytes, and not refused with 1 at 0", 0);
+        lay(under(80));
         if (length < 48)
             continue;
         uint32_t n = under((uint32_t)(length - 48) / 20 + 1), b = (uint32_t)length - 48 - 20 * n;
         memset(made, 0, 48);
-        put(made, 4 * TWIGMANTLE_TOKENS, n);
-        put(made, 4 * TWIGMANTLE_BYTES, b);
-        put(made, 4 * (TWIGMANTLE_MODE + under(8)), under(300));
-        if (lay(under(80)).refusal == 1)
-            wrong("counts that fit, and refused with 1", 0);
+        put(made, 4 * TWIGMANTLE_HEAD_TOKENS, n);
+        put(made, 4 * TWIGMANTLE_HEAD_BODY, b);
+        put(made, 4 * (TWIGMANTLE_HEAD_MODE + under(8)), under(300));
+        lay(under(80));
+    }
+}
+
+/* Up to three bytes by chance, or words at the edges of what is allowed. */
+static void damage(void)
+{
+    static const uint32_t edges[] = {0, 1, 2, 3, 16, 17, 31, 32, 64, 65, 127, 128, 255, 256, 257, 1024, 1025, 32768, 32769, 0x80000000u, 0xffffffffu};
+    for (uint32_t i = 1 + under(3); i > 0; i--) {
+        size_t at = under((uint32_t)length);
+        if (one_in(2) && at / 4 * 4 + 4 <= length)
+            put(made, at / 4 * 4, one_in(3) ? word_at(made, 12) + under(2) : edges[under(sizeof edges / sizeof edges[0])]);
+        else
+            made[at] = (uint8_t)under(256);
     }
 }
 
 /* The other call, into slices of every length. */
 static void heads(void)
 {
-    for (size_t n = 0; n < 3 * 100; n++) {
-        enum where where = n % WAYS;
-        size_t room = n / WAYS;
-        uint8_t *out = lend(&texts, room, where);
-        if (where != HEAP)
-            memset(out, 7, room);
-        size_t given = twigmantle_default_head(out, room), wanted = room < 48 ? 0 : 48;
-        length = wanted;
-        memcpy(made, out, wanted);
-        for (size_t i = wanted; i < room; i++)
+    static const uint8_t head[48] = {[20] = 2, [32] = 1, [36] = 50, [40] = 255, 255, 255, 255, 255, 255, 255, 255};
+    for (size_t n = 0; n < WAYS * 100; n++) {
+        where_now = n % WAYS;
+        room_now = n / WAYS;
+        uint8_t *out = lend(&texts, room_now, where_now);
+        if (where_now != HEAP)
+            memset(out, 7, room_now);
+        size_t given = twigmantle_default_head(out, room_now), wanted = room_now < 48 ? 0 : 48;
+        if (given != wanted || memcmp(out, head, wanted) != 0)
+            wrong("not the default head");
+        for (size_t i = wanted; i < room_now; i++)
             if (out[i] != 0)
-                wrong("a byte after the head that is not zero", room);
-        if (given != wanted || (wanted > 0 && lay(0).refusal != 0))
-            wrong("no default head", room);
-        give_back(out, where);
+                wrong("a byte after the head that is not zero");
+        give_back(out, where_now);
     }
+}
+
+/* A null pointer with length 0. */
+static void nulls(void)
+{
+    static const uint8_t head[48] = {[20] = 2};
+    uint8_t text[3] = {1, 2, 3};
+    stage = "null pointers with length 0";
+    room_now = length = 0;
+    struct twigmantle_report none = twigmantle_layout(NULL, 0, NULL, 0), sheet = twigmantle_layout(NULL, 0, text, 3), room = twigmantle_layout(head, 48, NULL, 0);
+    if (none.refusal != 1 || sheet.refusal != 1 || text[0] + text[1] + text[2] != 0 || room.refusal != 0 || twigmantle_default_head(NULL, 0) != 0)
+        wrong("another answer than for no bytes");
+}
+
+/* On a stack of its own, so that a call that runs out of stack is told too. */
+static void watch(void)
+{
+    static uint8_t stack[1 << 16];
+    static const int numbers[] = {SIGSEGV, SIGBUS, SIGALRM, SIGILL, SIGTRAP, SIGFPE, SIGABRT};
+    struct sigaction action = {.sa_sigaction = caught, .sa_flags = SA_SIGINFO | SA_ONSTACK};
+    sigaltstack(&(stack_t){.ss_sp = stack, .ss_size = sizeof stack}, NULL);
+    for (size_t i = 0; i < sizeof numbers / sizeof numbers[0]; i++)
+        sigaction(numbers[i], &action, NULL);
+}
+
+/* A run of many sheets must meet texts, and every refusal that a sheet can reach. 7 is not known to be one. */
+static int meets_all(uint64_t turns)
+{
+    int all = counts[0] > 0 && (too_short > 0 || turns < MANY);
+    for (int i = 1; i < 9; i++)
+        all &= counts[i] > 0 || i == 7 || turns < MANY;
+    if (!all)
+        printf("no text, or a refusal that no sheet met\n");
+    return all;
 }
 
 int main(int argc, char **argv)
 {
     uint64_t turns = argc > 1 ? strtoull(argv[1], NULL, 10) : 20000;
     dice = argc > 2 ? strtoull(argv[2], NULL, 10) : 1;
-    sheets = fenced(sizeof made);
-    texts = fenced(MOST_ROOM);
-    signal(SIGSEGV, caught);
-    signal(SIGBUS, caught);
-    signal(SIGALRM, caught);
+    sheets = fenced(sizeof made, 0);
+    texts = fenced(MOST_ROOM, 1);
+    watch();
+    alarm(SECONDS);
     heads();
+    known_sheets(expected);
+    nulls();
+    stage = "random";
     for (turn = 0; turn < turns; turn++) {
         alarm(SECONDS);
         if (turn % 256 == 0)
@@ -212,8 +323,8 @@ int main(int argc, char **argv)
         length = random_sheet(made);
         if (turn % 64 == 0)
             lengths();
-        for (uint32_t i = one_in(3) ? 1 + under(3) : 0; i > 0; i--) /* damaged */
-            made[under((uint32_t)length)] = (uint8_t)under(256);
+        if (one_in(3))
+            damage();
         rooms();
         if ((turn + 1) % (turns < 10 ? 1 : turns / 10) == 0)
             fprintf(stderr, "%" PRIu64 " of %" PRIu64 " sheets\n", turn + 1, turns);
@@ -222,5 +333,5 @@ int main(int argc, char **argv)
     for (int i = 1; i < 10; i++)
         printf(" %" PRIu64, counts[i]);
     printf("\n%" PRIu64 " further buffers too short\n", too_short);
-    return 0;
+    return meets_all(turns) ? 0 : 1;
 }

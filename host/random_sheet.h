@@ -6,9 +6,16 @@
 
 #include "twigmantle.h"
 
-enum { MOST_TOKENS = 1024, MOST_PARAMS = 256, MOST_KEEPS = 64, MOST_BYTES = 32768 };
-enum { LONGEST = 48 + 20 * MOST_TOKENS + 16 * MOST_PARAMS + 8 * MOST_KEEPS + MOST_BYTES };
-enum kind { RESERVED = 3, TOP_LEVEL = 4, OPEN = 9, CLOSE = 10, PLACEHOLDER = 14, WORD = 15, KINDS = 17 };
+enum {
+    LONGEST = TWIGMANTLE_MOST_SHEET,
+    RESERVED = TWIGMANTLE_KIND_RESERVED,
+    TOP_LEVEL = TWIGMANTLE_KIND_RESERVED_TOP_LEVEL,
+    OPEN = TWIGMANTLE_KIND_OPEN_PAREN,
+    CLOSE = TWIGMANTLE_KIND_CLOSE_PAREN,
+    PLACEHOLDER = TWIGMANTLE_KIND_PLACEHOLDER,
+    WORD = TWIGMANTLE_KIND_WORD,
+    KINDS = TWIGMANTLE_KIND_LAST + 1
+};
 
 static uint64_t dice;
 
@@ -79,7 +86,7 @@ enum mix { ANY, DEEP, FOLDS };
 
 static void put_token(uint8_t *sheet, size_t at, const struct bodies *b, enum mix mix)
 {
-    static const enum kind folds[] = {TOP_LEVEL, OPEN, WORD, CLOSE};
+    static const uint32_t folds[] = {TOP_LEVEL, OPEN, WORD, CLOSE};
     uint32_t kind = mix == DEEP && !one_in(8) ? OPEN : mix == FOLDS ? folds[at / 20 % 4] : under(KINDS);
     uint32_t class = under(4), create = one_in(mix == FOLDS ? 2 : 8);
     put(sheet, at, kind | class << 5 | create << 7);
@@ -96,21 +103,21 @@ static void put_head(uint8_t *sheet, const uint32_t counts[4], uint32_t mode, en
     uint32_t options[] = {one_in(8) ? under(257) : under(9), under(3), one_in(4), one_in(20) ? under(256) : under(4), block};
     for (size_t i = 0; i < 4; i++)
         put(sheet, 4 * i, counts[i]);
-    put(sheet, 4 * TWIGMANTLE_MODE, mode);
+    put(sheet, 4 * TWIGMANTLE_HEAD_MODE, mode);
     for (size_t i = 0; i < 5; i++)
-        put(sheet, 4 * (TWIGMANTLE_SPACES + i), options[i]);
-    put(sheet, 4 * TWIGMANTLE_ARGUMENTS, one_in(2) ? under(30) : TWIGMANTLE_NONE);
-    put(sheet, 4 * TWIGMANTLE_TOP_LEVEL, mix == FOLDS ? 0 : one_in(2) ? under(30) : TWIGMANTLE_NONE);
+        put(sheet, 4 * (TWIGMANTLE_HEAD_INDENT + i), options[i]);
+    put(sheet, 4 * TWIGMANTLE_HEAD_ARGUMENTS, one_in(2) ? under(30) : TWIGMANTLE_LIMIT_NONE);
+    put(sheet, 4 * TWIGMANTLE_HEAD_TOP_LEVEL, mix == FOLDS ? 0 : one_in(2) ? under(30) : TWIGMANTLE_LIMIT_NONE);
 }
 
 /* A sheet that checks 1 to 4 pass, the counts at their bounds for one in 500; its length. */
-static size_t random_sheet(uint8_t *sheet)
+static inline size_t random_sheet(uint8_t *sheet)
 {
     enum mix mix = one_in(20) ? DEEP : one_in(12) ? FOLDS : ANY;
     int full = one_in(500);
     uint32_t mode = full ? 1 + under(2) : under(3);
-    uint32_t n = full ? MOST_TOKENS : mix == DEEP ? 100 + under(200) : under(one_in(20) ? 300 : 24);
-    uint32_t p = full ? MOST_PARAMS : mode ? under(4) : 0, k = full ? MOST_KEEPS : under(3), b = full ? MOST_BYTES : under(200);
+    uint32_t n = full ? (uint32_t)TWIGMANTLE_MOST_TOKENS : mix == DEEP ? 100 + under(200) : under(one_in(20) ? 300 : 24);
+    uint32_t p = full ? (uint32_t)TWIGMANTLE_MOST_PARAMS : mode ? under(4) : 0, k = full ? (uint32_t)TWIGMANTLE_MOST_KEEPS : under(3), b = full ? (uint32_t)TWIGMANTLE_MOST_BODY : under(200);
     size_t params = 48 + 20 * (size_t)n, keeps = params + 16 * (size_t)p, base = keeps + 8 * (size_t)k;
     memset(sheet, 0, base);
     put_head(sheet, (const uint32_t[]){n, p, k, b}, mode, mix);

@@ -14,7 +14,7 @@
 #include "random_sheet.h"
 
 static const uint64_t PAINT = 0x0123456789abcdef;
-enum { STACK = 1 << 14, ROOM = 1 << 16, CREATE = 1 << 7, FROM_ONE = 3 << 5 };
+enum { STACK = 1 << 14, ROOM = 1 << 16, CREATE = TWIGMANTLE_PACKED_CREATE, FROM_ONE = TWIGMANTLE_KEY_ONE_INDEXED << TWIGMANTLE_PACKED_CLASS_SHIFT };
 
 typedef struct twigmantle_report layout_call(const uint8_t *sheet, size_t n, uint8_t *text, size_t room);
 
@@ -73,20 +73,20 @@ static size_t depth(void)
 /* The default head, the tokens, and their values one after another. */
 static void build(const struct token *tokens, uint32_t n, uint32_t repeated)
 {
-    uint32_t body = 0, base = TWIGMANTLE_HEAD + 20 * n * repeated;
+    uint32_t body = 0, base = TWIGMANTLE_SIZE_HEAD + 20 * n * repeated;
     memset(sheet, 0, sizeof sheet);
-    twigmantle_default_head(sheet, TWIGMANTLE_HEAD);
+    twigmantle_default_head(sheet, TWIGMANTLE_SIZE_HEAD);
     for (uint32_t i = 0; i < n * repeated; i++) {
         const struct token *token = &tokens[i % n];
-        uint32_t at = TWIGMANTLE_HEAD + 20 * i, bytes = (uint32_t)strlen(token->value);
+        uint32_t at = TWIGMANTLE_SIZE_HEAD + 20 * i, bytes = (uint32_t)strlen(token->value);
         put(sheet, at, token->packed);
         put(sheet, at + 4, body);
         put(sheet, at + 8, bytes);
         memcpy(sheet + base + body, token->value, bytes);
         body += bytes;
     }
-    put(sheet, 4 * TWIGMANTLE_TOKENS, n * repeated);
-    put(sheet, 4 * TWIGMANTLE_BYTES, body);
+    put(sheet, 4 * TWIGMANTLE_HEAD_TOKENS, n * repeated);
+    put(sheet, 4 * TWIGMANTLE_HEAD_BODY, body);
     length = base + body;
     room = ROOM;
 }
@@ -121,12 +121,12 @@ static void texts(void)
     show("the default head alone", 0);
     build(QUERY, LENGTH, 1);
     show("a query", 0);
-    build(QUERY, LENGTH, MOST_TOKENS / LENGTH);
+    build(QUERY, LENGTH, TWIGMANTLE_MOST_TOKENS / LENGTH);
     show("1,024 tokens", 0);
     build(&open, 1, 128);
-    option(TWIGMANTLE_BLOCK, 0);
+    option(TWIGMANTLE_HEAD_BLOCK, 0);
     show("128 brackets, each on a line", 0);
-    option(TWIGMANTLE_BLOCK, 40000);
+    option(TWIGMANTLE_HEAD_BLOCK, 40000);
     show("128 brackets within a line", 0);
     build(nested, 2, 64);
     show("64 brackets and 64 top-level words", 0);
@@ -140,23 +140,23 @@ static void refusals(void)
     length--;
     show("refusal 1", 1);
     length++;
-    option(TWIGMANTLE_CASE, 3);
+    option(TWIGMANTLE_HEAD_CASE, 3);
     show("refusal 2", 2);
-    option(TWIGMANTLE_CASE, 1);
-    put(sheet, TWIGMANTLE_HEAD + 20 * (LENGTH - 1) + 4, 1000);
+    option(TWIGMANTLE_HEAD_CASE, 1);
+    put(sheet, TWIGMANTLE_SIZE_HEAD + 20 * (LENGTH - 1) + 4, 1000);
     show("refusal 3", 3);
     build(QUERY, LENGTH, 1);
     sheet[length - 1] = 128;
     show("refusal 4", 4);
     build(&nought, 1, 1);
-    option(TWIGMANTLE_MODE, 1);
+    option(TWIGMANTLE_HEAD_MODE, 1);
     show("refusal 5", 5);
     build(&open, 1, 129);
-    option(TWIGMANTLE_BLOCK, 0);
+    option(TWIGMANTLE_HEAD_BLOCK, 0);
     show("refusal 6", 6);
     build(folds, 4, 1);
-    option(TWIGMANTLE_BLOCK, 0);
-    option(TWIGMANTLE_TOP_LEVEL, 0);
+    option(TWIGMANTLE_HEAD_BLOCK, 0);
+    option(TWIGMANTLE_HEAD_TOP_LEVEL, 0);
     show("refusal 8", 8);
     build(QUERY, LENGTH, 1);
     room = 100;

@@ -1,57 +1,175 @@
-/* The layout of a query sheet: any bytes, any buffer, no condition on either but that they do not overlap.
- * Link libtwigmantle.a (rt staticlib twigmantle, x86-64). */
+/* The layout of a query sheet: any bytes, any buffer. docs/sheet.md says what a sheet is.
+ *
+ * Link libtwigmantle.a (rt staticlib twigmantle; x86-64). It may call memcpy, memmove and memset, and nothing else; it allocates nothing.
+ *
+ * Pointers. Each must be good for the length given with it, and may be null where that length is 0. The sheet is only read. The sheet and the buffer may not
+ * overlap, and no one else may write to either during the call.
+ *
+ * Threads. The library keeps no state between calls or across them: any number of threads may call at once, each with a buffer of its own. Sheets may be shared. */
 #ifndef TWIGMANTLE_H
 #define TWIGMANTLE_H
 
 #include <stddef.h>
 #include <stdint.h>
 
-/* What the layout call gives back. refusal 0: the text stands at the buffer's start, zero bytes after it. Otherwise every other count is 0, place
- * says where, and the buffer is all zero. */
+/* The version of the sheet's form. It goes up when a number below changes, or when another set of sheets passes refusals 1 to 4. A sheet does not carry it. */
+#define TWIGMANTLE_FORM 1
+
+#ifdef __cplusplus
+extern "C" {
+#endif
+
+/* What the layout call gives back. refusal 0: the text stands at the buffer's start, zero bytes after it, and place is 0. Otherwise place says where,
+ * length, lines and width are 0, and the buffer is all zero. */
 struct twigmantle_report {
-    uint32_t refusal;
+    uint32_t refusal; /* enum twigmantle_refusal */
     uint64_t place;
     uint64_t length; /* of the text, in bytes */
     uint64_t lines;  /* line feeds and one more; 0 if the text is empty */
     uint64_t width;  /* of the longest line, in bytes */
 };
 
-/* Lays out the sheet of n bytes into text, a buffer of room bytes. */
+/* Lays out the sheet of n bytes into text, a buffer of room bytes.
+ * n 0: refusal 1 at 0. room 0: the empty text if nothing was to be written, else a refusal; no byte is written. */
 struct twigmantle_report twigmantle_layout(const uint8_t *sheet, size_t n, uint8_t *text, size_t room);
 
-/* Writes the default head into out: 48 bytes, zero after them, and gives 48. An out under 48 bytes becomes zero, and it gives 0. */
+/* Writes the default head into out, n bytes: its 48 bytes, zero after them, and gives 48. An out under 48 bytes becomes zero, and it gives 0; n 0 too. */
 size_t twigmantle_default_head(uint8_t *out, size_t n);
 
-/* Refusals. The place is a byte offset in the sheet for 1 to 4, a token's number for 5 to 9. */
-enum {
-    TWIGMANTLE_SIZE = 1,   /* under 48 bytes, a count over its bound, or a wrong length; place 0 */
-    TWIGMANTLE_WORD = 2,   /* a word that is not allowed: its offset */
-    TWIGMANTLE_PLACE = 3,  /* start + length past the bodies: the start word's offset */
-    TWIGMANTLE_BYTE = 4,   /* a body byte of 128 or more: its offset */
-    TWIGMANTLE_NOUGHT = 5, /* Indexed, and a placeholder counts from one and says 0 */
-    TWIGMANTLE_INDENT = 6, /* a 129th entry on the indent stack */
-    TWIGMANTLE_INLINE = 7, /* a 129th open inline block */
-    TWIGMANTLE_FOLDED = 8, /* a folded block closed with no unfolded entry left */
-    TWIGMANTLE_ROOM = 9    /* the working text would be longer than the buffer */
+#ifdef __cplusplus
+}
+#endif
+
+/* The struct is the library's: a compiler that lays it out otherwise stops here, at an array of length -1. */
+typedef char twigmantle_report_has_40_bytes[sizeof(struct twigmantle_report) == 40 ? 1 : -1];
+typedef char twigmantle_report_has_place_at_8[offsetof(struct twigmantle_report, place) == 8 ? 1 : -1];
+typedef char twigmantle_report_has_length_at_16[offsetof(struct twigmantle_report, length) == 16 ? 1 : -1];
+typedef char twigmantle_report_has_lines_at_24[offsetof(struct twigmantle_report, lines) == 24 ? 1 : -1];
+typedef char twigmantle_report_has_width_at_32[offsetof(struct twigmantle_report, width) == 32 ? 1 : -1];
+typedef char twigmantle_lengths_have_64_bits[sizeof(size_t) == 8 && sizeof(void *) == 8 ? 1 : -1];
+
+/* Refusals, and what the place counts: bytes of the sheet up to TWIGMANTLE_REFUSAL_BYTE, tokens from there on. */
+enum twigmantle_refusal {
+    TWIGMANTLE_REFUSAL_NONE = 0,
+    TWIGMANTLE_REFUSAL_SIZE = 1,   /* under 48 bytes, a count over its bound, or a length that the counts do not give; place 0 */
+    TWIGMANTLE_REFUSAL_WORD = 2,   /* a word that is not allowed: its offset */
+    TWIGMANTLE_REFUSAL_PLACE = 3,  /* start + length past the bodies: the start word's offset */
+    TWIGMANTLE_REFUSAL_BYTE = 4,   /* a body byte of 128 or more: its offset */
+    TWIGMANTLE_REFUSAL_NOUGHT = 5, /* mode Indexed, and a placeholder counts from one and says 0 */
+    TWIGMANTLE_REFUSAL_INDENT = 6, /* one more entry on the indent stack than TWIGMANTLE_MOST_DEPTH */
+    TWIGMANTLE_REFUSAL_INLINE = 7, /* one more open inline block than that */
+    TWIGMANTLE_REFUSAL_FOLDED = 8, /* a folded block closed with no unfolded entry left */
+    TWIGMANTLE_REFUSAL_ROOM = 9    /* the working text would be longer than the buffer */
 };
 
-/* The head's twelve words, little-endian: which word is which. */
-enum {
-    TWIGMANTLE_TOKENS = 0,
-    TWIGMANTLE_PARAMS = 1,
-    TWIGMANTLE_KEEPS = 2,
-    TWIGMANTLE_BYTES = 3,
-    TWIGMANTLE_MODE = 4,      /* 0 None, 1 Indexed, 2 Named */
-    TWIGMANTLE_SPACES = 5,    /* 0 to 255 spaces, 256 tabs */
-    TWIGMANTLE_CASE = 6,      /* 0 as is, 1 upper, 2 lower */
-    TWIGMANTLE_ONE_LINE = 7,  /* 0, 1 */
-    TWIGMANTLE_BETWEEN = 8,   /* lines between queries, 0 to 255 */
-    TWIGMANTLE_BLOCK = 9,     /* longest inline block */
-    TWIGMANTLE_ARGUMENTS = 10,
-    TWIGMANTLE_TOP_LEVEL = 11
+/* The sheet: a head, records, bodies. Words are 32 bits, the low byte first. */
+enum twigmantle_size { /* in bytes */
+    TWIGMANTLE_SIZE_WORD = 4,
+    TWIGMANTLE_SIZE_HEAD = 48,
+    TWIGMANTLE_SIZE_TOKEN = 20,
+    TWIGMANTLE_SIZE_PARAM = 16,
+    TWIGMANTLE_SIZE_KEEP = 8
 };
 
-#define TWIGMANTLE_HEAD 48u          /* bytes of the head */
-#define TWIGMANTLE_NONE 0xffffffffu  /* no limit given, in words 10 and 11 alone */
+enum twigmantle_most {
+    TWIGMANTLE_MOST_TOKENS = 1024,
+    TWIGMANTLE_MOST_PARAMS = 256,
+    TWIGMANTLE_MOST_KEEPS = 64,
+    TWIGMANTLE_MOST_BODY = 32768, /* bytes of the bodies */
+    TWIGMANTLE_MOST_BYTE = 127,   /* in the bodies */
+    TWIGMANTLE_MOST_SPACES = 255, /* word TWIGMANTLE_HEAD_INDENT; one more is TWIGMANTLE_INDENT_TABS */
+    TWIGMANTLE_MOST_LINES = 255,  /* word TWIGMANTLE_HEAD_LINES */
+    TWIGMANTLE_MOST_DEPTH = 128,  /* entries on the indent stack; open inline blocks */
+    TWIGMANTLE_MOST_SHEET = 57904 /* bytes of a sheet with every count at its bound */
+};
+
+/* The head's twelve words, by number. */
+enum twigmantle_head {
+    TWIGMANTLE_HEAD_TOKENS = 0,
+    TWIGMANTLE_HEAD_PARAMS = 1, /* 0 in mode None */
+    TWIGMANTLE_HEAD_KEEPS = 2,
+    TWIGMANTLE_HEAD_BODY = 3,      /* bytes of the bodies */
+    TWIGMANTLE_HEAD_MODE = 4,      /* enum twigmantle_mode */
+    TWIGMANTLE_HEAD_INDENT = 5,    /* so many spaces, or TWIGMANTLE_INDENT_TABS */
+    TWIGMANTLE_HEAD_CASE = 6,      /* enum twigmantle_case */
+    TWIGMANTLE_HEAD_INLINE = 7,    /* enum twigmantle_inline */
+    TWIGMANTLE_HEAD_LINES = 8,     /* lines between queries */
+    TWIGMANTLE_HEAD_BLOCK = 9,     /* longest inline block */
+    TWIGMANTLE_HEAD_ARGUMENTS = 10, /* longest inline arguments, or TWIGMANTLE_LIMIT_NONE */
+    TWIGMANTLE_HEAD_TOP_LEVEL = 11  /* longest inline top-level part, or TWIGMANTLE_LIMIT_NONE */
+};
+
+enum twigmantle_mode { TWIGMANTLE_MODE_NONE = 0, TWIGMANTLE_MODE_INDEXED = 1, TWIGMANTLE_MODE_NAMED = 2 };
+
+enum twigmantle_indent { TWIGMANTLE_INDENT_TABS = 256 };
+
+enum twigmantle_case { TWIGMANTLE_CASE_AS_IS = 0, TWIGMANTLE_CASE_UPPER = 1, TWIGMANTLE_CASE_LOWER = 2 };
+
+enum twigmantle_inline { TWIGMANTLE_INLINE_OFF = 0, TWIGMANTLE_INLINE_ON = 1 };
+
+#define TWIGMANTLE_LIMIT_NONE 0xffffffffu /* no limit given, in words 10 and 11 alone */
+
+/* The options of the default head; its counts and its mode are 0. */
+#define TWIGMANTLE_DEFAULT_INDENT 2u
+#define TWIGMANTLE_DEFAULT_CASE TWIGMANTLE_CASE_AS_IS
+#define TWIGMANTLE_DEFAULT_INLINE TWIGMANTLE_INLINE_OFF
+#define TWIGMANTLE_DEFAULT_LINES 1u
+#define TWIGMANTLE_DEFAULT_BLOCK 50u
+#define TWIGMANTLE_DEFAULT_ARGUMENTS TWIGMANTLE_LIMIT_NONE
+#define TWIGMANTLE_DEFAULT_TOP_LEVEL TWIGMANTLE_LIMIT_NONE
+
+/* The words of each record, by number. Starts count from the first byte of the bodies. */
+enum twigmantle_token {
+    TWIGMANTLE_TOKEN_PACKED = 0, /* enum twigmantle_packed */
+    TWIGMANTLE_TOKEN_START = 1,
+    TWIGMANTLE_TOKEN_LENGTH = 2,
+    TWIGMANTLE_TOKEN_KEY_A = 3, /* the name's start, or the number, or 0 */
+    TWIGMANTLE_TOKEN_KEY_B = 4  /* the name's length, or 0 */
+};
+
+enum twigmantle_param {
+    TWIGMANTLE_PARAM_NAME_START = 0, /* 0 unless the mode is Named */
+    TWIGMANTLE_PARAM_NAME_LENGTH = 1,
+    TWIGMANTLE_PARAM_START = 2,
+    TWIGMANTLE_PARAM_LENGTH = 3
+};
+
+enum twigmantle_keep { TWIGMANTLE_KEEP_START = 0, TWIGMANTLE_KEEP_LENGTH = 1 };
+
+/* The packed word: bits 0 to 4 the kind, 5 and 6 the key class, 7 the alias; all others 0. */
+enum twigmantle_packed {
+    TWIGMANTLE_PACKED_KIND_MASK = 31,
+    TWIGMANTLE_PACKED_CLASS_SHIFT = 5,
+    TWIGMANTLE_PACKED_CLASS_MASK = 3, /* after the shift */
+    TWIGMANTLE_PACKED_CREATE = 128    /* set if the alias is CREATE */
+};
+
+enum twigmantle_kind {
+    TWIGMANTLE_KIND_TYPE_SPECIFIER = 0,
+    TWIGMANTLE_KIND_WHITESPACE = 1,
+    TWIGMANTLE_KIND_STRING = 2,
+    TWIGMANTLE_KIND_RESERVED = 3,
+    TWIGMANTLE_KIND_RESERVED_TOP_LEVEL = 4,
+    TWIGMANTLE_KIND_RESERVED_TOP_LEVEL_NO_INDENT = 5,
+    TWIGMANTLE_KIND_RESERVED_NEWLINE = 6,
+    TWIGMANTLE_KIND_RESERVED_NEWLINE_AFTER = 7,
+    TWIGMANTLE_KIND_OPERATOR = 8,
+    TWIGMANTLE_KIND_OPEN_PAREN = 9,
+    TWIGMANTLE_KIND_CLOSE_PAREN = 10,
+    TWIGMANTLE_KIND_LINE_COMMENT = 11,
+    TWIGMANTLE_KIND_BLOCK_COMMENT = 12,
+    TWIGMANTLE_KIND_NUMBER = 13,
+    TWIGMANTLE_KIND_PLACEHOLDER = 14,
+    TWIGMANTLE_KIND_WORD = 15,
+    TWIGMANTLE_KIND_JOIN = 16,
+    TWIGMANTLE_KIND_LAST = TWIGMANTLE_KIND_JOIN
+};
+
+enum twigmantle_key {
+    TWIGMANTLE_KEY_NONE = 0,
+    TWIGMANTLE_KEY_NAMED = 1,
+    TWIGMANTLE_KEY_ZERO_INDEXED = 2, /* a number that counts from nought */
+    TWIGMANTLE_KEY_ONE_INDEXED = 3   /* a number that counts from one */
+};
 
 #endif

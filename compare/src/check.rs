@@ -40,6 +40,11 @@ impl Tally {
 const EVERY: u64 = 128;
 
 pub fn run(n: u64, seed: u64) -> bool {
+    #[cfg(feature = "call")]
+    if let Err(difference) = crate::call::head_is_the_rusts() {
+        println!("DIFFERENCE: {difference}");
+        return false;
+    }
     let mut tally = Tally::default();
     let mut lengths = [0; noise::LONGEST + 1];
     for turn in 0..n {
@@ -123,12 +128,12 @@ fn compare(made: &Made, ample: &Trial) -> Result<&'static str, String> {
             heights(&read, &ample.heights).map(|()| "text and heights")
         }
         Answer::Refused(Refusal { number: 5, place }) => {
-            panics(&read, Panic::OneIndexedNought, *place)
+            panics(&read, Panic::OneIndexedNought, *place, &ample.heights)
         }
         Answer::Refused(Refusal { number: 8, place }) => {
-            panics(&read, Panic::IndentBelowNought, *place)
+            panics(&read, Panic::IndentBelowNought, *place, &ample.heights)
         }
-        Answer::Refused(_) => before_refusal(&read, &ample.heights),
+        Answer::Refused(Refusal { place, .. }) => before_refusal(&read, *place, &ample.heights),
     }
 }
 
@@ -150,7 +155,12 @@ fn heights(read: &Read, model: &[Height]) -> Result<(), String> {
     Err(format!("heights: {:?}", at.map(|i| ("Rust", rust[i], "model", model[i]))))
 }
 
-fn panics(read: &Read, panic: Panic, place: usize) -> Result<&'static str, String> {
+fn panics(
+    read: &Read,
+    panic: Panic,
+    place: usize,
+    model: &[Height],
+) -> Result<&'static str, String> {
     let plain = read.text().err();
     let watched = read.heights().err();
     if plain.as_ref() != Some(&panic) || watched != plain {
@@ -159,17 +169,26 @@ fn panics(read: &Read, panic: Panic, place: usize) -> Result<&'static str, Strin
     if watched::token() != place {
         return Err(format!("the Rust panics at token {}", watched::token()));
     }
-    Ok("panic and its token")
+    before(&watched::left(), model).map(|()| "panic, its token, heights before it")
 }
 
-/// Refusals 6 and 7 are not the Rust's; what was laid out before them is.
-fn before_refusal(read: &Read, model: &[Height]) -> Result<&'static str, String> {
-    let Ok(rust) = read.heights() else {
-        return Ok("none: the Rust panics later");
-    };
+/// Refusals 6 and 7 are not the Rust's; what was laid out before them is, and a panic that the
+/// Rust has for another token must come later.
+fn before_refusal(read: &Read, place: usize, model: &[Height]) -> Result<&'static str, String> {
+    match read.heights() {
+        Ok(rust) => before(&rust, model).map(|()| "heights before 6 or 7"),
+        Err(panic) if matches!(panic, Panic::Other(_)) || watched::token() <= place => {
+            Err(format!("the Rust panics at token {} by {panic:?}", watched::token()))
+        }
+        Err(_) => before(&watched::left(), model).map(|()| "heights before 6 or 7, a panic later"),
+    }
+}
+
+/// The heights of all tokens but the refused one, which is the model's last.
+fn before(rust: &[Height], model: &[Height]) -> Result<(), String> {
     let before = model.len() - 1;
     let same = rust.get(..before) == model.get(..before);
-    same.then_some("heights before 6 or 7").ok_or("heights before 6 or 7".into())
+    same.then_some(()).ok_or("heights before the refusal".into())
 }
 
 /// The answer at this buffer, worked out again from the heights at an ample one.

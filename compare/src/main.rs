@@ -1,4 +1,5 @@
-//! Compares document 01's rules, and any port's answers, with the Rust that the desk runs.
+//! Compares document 01's rules (`docs/sheet.md`), and any port's answers, with the Rust that the
+//! desk runs.
 
 mod answers;
 #[cfg(feature = "call")]

@@ -73,7 +73,7 @@ impl Read<'_> {
     /// The heights of the Rust's working text, from the watched copy.
     pub fn heights(&self) -> Result<Vec<Height>, Panic> {
         let (tokens, params, options) = (&self.tokens, &self.params, &self.options);
-        caught(|| crate::watched_formatter::format(tokens, params, options).heights)
+        caught(|| crate::watched_formatter::format(tokens, params, options).heights.clone())
     }
 }
 

@@ -238,10 +238,15 @@ fn block(text: &str) -> String {
 
 const OPENING: &str = "# Samples
 
-Each sheet, the SQL that its tokens make one after another, and what the sheet program prints for it (the file NAME.text). From the repository's root:
+Each sheet, the SQL that its tokens make one after another, and what the sheet program prints for it (the file NAME.text). On x86-64 Linux, from the
+repository's root, after `rt check sheet`:
 
     target/bin/sheet < samples/join.sheet
     for s in samples/*.sheet; do target/bin/sheet < $s | cmp - ${s%sheet}text && echo $s; done
+
+The program ends with 0 on a refusal too: the first word says which it is. On another machine it needs an x86-64 emulator, as in
+`qemu-x86_64 -L /usr/x86_64-linux-gnu target/bin/sheet < samples/join.sheet` (`README.md` says what must be there); `rt check sheet` runs it there by
+itself.
 
 Made by `compare/target/release/compare samples samples` (`docs/comparison.md`) from `compare/src/samples.rs`, where the tokens stand with their kinds. The
 texts are the Rust's own, the refusals the model's.

@@ -169,6 +169,12 @@ fn deep_sheets() -> Vec<Case> {
         sheet.tokens.push(Token::new(kind, value));
         with(sheet, |o| o.top_level = top_level)
     };
+    // No blank after the dot, so that the line feed has no room.
+    let mut no_blank = top(OPERATOR, ".", 9);
+    no_blank.tokens.push(Token::new(NEWLINE, "AND"));
+    // The dropped word is the one before the bracket, which gets a blank: the full buffer has no room for it.
+    let mut switched = deep(LINE_COMMENT, "-- fmt: on");
+    switched.tokens.extend([Token::new(RESERVED, "as"), Token::new(OPEN, "(")]);
     vec![
         at("6 before 9 at a bracket", deep(OPEN, "("), full, refusal(6, 128)),
         at("9 before 6, newline-after", set(), full + 2, refusal(9, 128)),
@@ -176,6 +182,30 @@ fn deep_sheets() -> Vec<Case> {
         at("9 before 6, top level", top(WORD, "a", 0), full, refusal(9, 128)),
         at("6 after the word, top level", top(WORD, "a", 0), full + 1, refusal(6, 128)),
         at("6 before 9, newline", top(NEWLINE, "AND", 9), full + 2, refusal(6, 129)),
+        at("6 before the new line, newline", no_blank, full + 2, refusal(6, 130)),
+        at("6 before the blank of a bracket", switched, full, refusal(6, 130)),
+    ]
+}
+
+/// What counts for 6, and that it comes before 7: the Rust has neither bound.
+fn full_sheets() -> Vec<Case> {
+    let at = |name, sheet, wanted| Case { name, sheet, room: ROOM, wanted };
+    let inline = |count| with(of(&vec![(OPEN, "("); count]), |o| o.block = 40000);
+    let mut tokens = [(TOP_LEVEL, "T"), (OPEN, "(")].repeat(64);
+    tokens.extend([(TOP_LEVEL, "T"), (WORD, "a")]);
+    let folded = with(of(&tokens), |o| (o.block, o.top_level, o.indent) = (0, 0, 0));
+    let union = [(NO_INDENT, "UNION"), (WORD, "a")];
+    let at_128 = |more: &[(u8, &str)]| {
+        let tokens = [&[(OPEN, "("); 128], more].concat();
+        with(of(&tokens), |o| (o.block, o.top_level, o.indent) = (0, 0, 0))
+    };
+    let after_128 = |more: &[&str]| text(&[&["("; 128], more].concat());
+    vec![
+        at("128 inline brackets", inline(128), text(&["(".repeat(128).as_str()])),
+        at("6 before 7", inline(129), refusal(6, 128)),
+        at("6 counts folded entries", folded, refusal(6, 128)),
+        at("no 6 at a close", at_128(&[(CLOSE, ")")]), after_128(&[")"])),
+        at("no 6 at a no-indent word", at_128(&union), after_128(&["UNION", "a"])),
     ]
 }
 
@@ -186,6 +216,9 @@ fn further_sheets() -> Vec<Case> {
     let folding = |sheet| with(sheet, |o| (o.block, o.top_level, o.indent) = (0, 0, 0));
     let mut below = folding(of(&word));
     below.tokens[0].create = true;
+    // No blank after the dot, so that the close's line feed has no room.
+    let mut no_blank = below.clone();
+    no_blank.tokens[2] = Token::new(OPERATOR, ".");
     let switch = [(NO_INDENT, "UNION"), (LINE_COMMENT, "-- fmt: on")];
     let dropped = folding(of(&[&switch[..], &word[..]].concat()));
     let nought = indexed(key(of(&[(PLACEHOLDER, "?")]), Key::OneIndexed(0)), &[]);
@@ -193,6 +226,7 @@ fn further_sheets() -> Vec<Case> {
     vec![
         at("8 before 9", below.clone(), 7, refusal(8, 3)),
         at("9 before the close", below, 6, refusal(9, 2)),
+        at("8 before the new line of a close", no_blank, 6, refusal(8, 3)),
         at("8 without the alias, the word dropped", dropped, ROOM, refusal(8, 5)),
         at("5 before 9", nought, 0, refusal(5, 0)),
         at("9 in a text that is all white", white(), 0, refusal(9, 0)),
@@ -203,17 +237,32 @@ fn further_sheets() -> Vec<Case> {
 /// Every sheet of this file with its buffer.
 pub fn sheets() -> Vec<(Vec<u8>, usize)> {
     let parts = [plain_sheets(), placeholder_sheets(), bracket_sheets(), word_sheets()];
-    let further = [deep_sheets(), further_sheets()];
-    let cases = parts.into_iter().chain(further).flatten();
+    let cases = parts.into_iter().chain(further_parts()).flatten();
     cases.map(|case| (case.sheet.encode(&mut in_turn), case.room)).collect()
+}
+
+fn further_parts() -> [Vec<Case>; 3] {
+    [deep_sheets(), full_sheets(), further_sheets()]
 }
 
 pub fn run() -> bool {
     let parts = [plain_sheets(), placeholder_sheets(), bracket_sheets(), word_sheets()];
     let sheets = count(parts.into_iter().flatten().collect(), "document 01's sheets");
-    let further =
-        count([deep_sheets(), further_sheets()].into_iter().flatten().collect(), "further sheets");
-    sheets && further
+    let further = count(further_parts().into_iter().flatten().collect(), "further sheets");
+    sheets && further && head()
+}
+
+/// The call's default head, where it is linked.
+fn head() -> bool {
+    #[cfg(feature = "call")]
+    match crate::call::head_is_the_rusts() {
+        Ok(()) => println!("the default head: the Rust's"),
+        Err(difference) => {
+            println!("{difference}");
+            return false;
+        }
+    }
+    true
 }
 
 fn count(cases: Vec<Case>, what: &str) -> bool {
@@ -225,10 +274,23 @@ fn count(cases: Vec<Case>, what: &str) -> bool {
 fn is_right(case: &Case) -> bool {
     let bytes = case.sheet.encode(&mut in_turn);
     let model = model::answer(&bytes, case.room);
-    let right = model == case.wanted && rust_agrees(case, &bytes);
+    let right = model == case.wanted && rust_agrees(case, &bytes) && call_agrees(case, &bytes);
     if !right {
         println!("sheet {}: wanted {}", case.name, show::answer(&case.wanted));
         println!("model {}\nRust {}", show::answer(&model), show::rust(&bytes));
+    }
+    right
+}
+
+/// The proved call, where it is linked.
+fn call_agrees(case: &Case, bytes: &[u8]) -> bool {
+    #[cfg(feature = "call")]
+    let (whose, got) = ("call", crate::call::answer(bytes, case.room));
+    #[cfg(not(feature = "call"))]
+    let (whose, got) = ("model", Ok::<_, String>(model::answer(bytes, case.room)));
+    let right = got.as_ref() == Ok(&case.wanted);
+    if !right {
+        println!("the {whose}: {}", got.map_or_else(|said| said, |got| show::answer(&got)));
     }
     right
 }

@@ -1,15 +1,23 @@
 //! A text that remembers its heights: what the second copy of the formatter writes into.
 
-use std::cell::Cell;
+use std::cell::{Cell, RefCell};
+use std::mem;
 use std::ops::Deref;
+use std::thread;
 
 thread_local! {
     static TOKEN: Cell<usize> = const { Cell::new(0) };
+    static LEFT: RefCell<Vec<Height>> = const { RefCell::new(Vec::new()) };
 }
 
 /// The token that the Rust was last at: after a panic, the place of the refusal.
 pub fn token() -> usize {
     TOKEN.get()
+}
+
+/// The heights that the last panic left.
+pub fn left() -> Vec<Height> {
+    LEFT.take()
 }
 
 /// How long the working text got while one token was laid out, and how long it was left.
@@ -86,5 +94,13 @@ impl Deref for String {
 
     fn deref(&self) -> &str {
         &self.text
+    }
+}
+
+impl Drop for String {
+    fn drop(&mut self) {
+        if thread::panicking() && !self.heights.is_empty() {
+            LEFT.set(mem::take(&mut self.heights));
+        }
     }
 }

@@ -1,0 +1,146 @@
+/* Sheets whose answer is known, each with a buffer: texts, and every refusal from 5 on that a sheet can reach. For hard.c. */
+#ifndef KNOWN_H
+#define KNOWN_H
+
+#include "builder.h"
+
+/* The text, or a refusal. */
+struct wanted {
+    const char *text;
+    uint32_t refusal;
+    uint64_t place;
+};
+
+typedef void expect(const char *name, const struct sheet_plan *plan, size_t room, struct wanted wanted);
+
+enum { PLENTY = 65536 };
+
+#define TEXT(t) ((struct wanted){t, 0, 0})
+#define REFUSAL(number, place) ((struct wanted){NULL, number, place})
+#define LIST(a) (a), sizeof(a) / sizeof((a)[0])
+#define VALUE(s) {s, sizeof(s) - 1}
+#define TOKEN(k, s) {.kind = TWIGMANTLE_KIND_##k, .value = VALUE(s)}
+#define BLANK TOKEN(WHITESPACE, " ")
+#define FEED TOKEN(WHITESPACE, "\n")
+
+static struct sheet_plan of(const struct sheet_token *tokens, size_t n)
+{
+    return (struct sheet_plan){.options = sheet_default_options(), .tokens = tokens, .token_count = n};
+}
+
+static struct sheet_plan filled(const struct sheet_token *tokens, size_t n, uint32_t mode, const struct sheet_param *params, size_t p)
+{
+    struct sheet_plan plan = of(tokens, n);
+    plan.mode = mode;
+    plan.params = params;
+    plan.param_count = p;
+    return plan;
+}
+
+static void known_queries(expect *expect)
+{
+    static const struct sheet_token word[] = {TOKEN(WORD, "a")};
+    static const struct sheet_token notes[] = {TOKEN(RESERVED_TOP_LEVEL, "SELECT"), BLANK, TOKEN(WORD, "id"),   BLANK,
+                                               TOKEN(RESERVED_TOP_LEVEL, "FROM"),   BLANK, TOKEN(WORD, "calls")};
+    static const struct sheet_token two[] = {TOKEN(WORD, "a"), TOKEN(OPERATOR, ";"), TOKEN(WORD, "b")};
+    struct sheet_plan plan = of(NULL, 0);
+    expect("no tokens", &plan, PLENTY, TEXT(""));
+    expect("no tokens, no room", &plan, 0, TEXT(""));
+    plan = of(LIST(word));
+    expect("a word", &plan, 2, TEXT("a"));
+    expect("a word, too little room", &plan, 1, REFUSAL(9, 0));
+    plan = of(LIST(notes));
+    expect("a query", &plan, 26, TEXT("SELECT\n  id\nFROM\n  calls"));
+    expect("a query, too little room", &plan, 25, REFUSAL(9, 6));
+    plan.options.indent = TWIGMANTLE_INDENT_TABS;
+    expect("a query with tabs", &plan, PLENTY, TEXT("SELECT\n\tid\nFROM\n\tcalls"));
+    plan.options.one_line = TWIGMANTLE_INLINE_ON;
+    expect("a query on one line", &plan, PLENTY, TEXT("SELECT id FROM calls"));
+    plan = of(LIST(notes));
+    plan.options.top_level = 5;
+    expect("a query, 5 at the top level", &plan, PLENTY, TEXT("SELECT id\nFROM\n  calls"));
+    plan = of(LIST(two));
+    expect("two queries", &plan, PLENTY, TEXT("a;\nb"));
+    plan.options.lines = 0;
+    expect("two queries, no line between", &plan, PLENTY, TEXT("a;b"));
+}
+
+static void known_words(expect *expect)
+{
+    static const struct sheet_token null[] = {TOKEN(RESERVED, "is  null")};
+    static const struct sheet_bytes keep[] = {VALUE("is  null")};
+    static const struct sheet_token comments[] = {TOKEN(WORD, "a"), BLANK, TOKEN(LINE_COMMENT, "-- note"), FEED, TOKEN(WORD, "b"),
+                                                  TOKEN(BLOCK_COMMENT, "/* x\n  y */"), TOKEN(WORD, "c")};
+    struct sheet_plan plan = of(LIST(null));
+    plan.options.letter_case = TWIGMANTLE_CASE_UPPER;
+    expect("upper case", &plan, PLENTY, TEXT("IS NULL"));
+    plan.keeps = keep;
+    plan.keep_count = 1;
+    expect("a keep word", &plan, PLENTY, TEXT("is null"));
+    plan = of(LIST(comments));
+    expect("comments", &plan, PLENTY, TEXT("a -- note\nb\n/* x\n y */\nc"));
+}
+
+static void known_placeholders(expect *expect)
+{
+    static const struct sheet_token three[] = {TOKEN(PLACEHOLDER, "?"), TOKEN(PLACEHOLDER, "?"), TOKEN(PLACEHOLDER, "?")};
+    static const struct sheet_token off[] = {TOKEN(LINE_COMMENT, "-- fmt: off"), FEED, TOKEN(PLACEHOLDER, "?"), TOKEN(WORD, "x"),
+                                             TOKEN(LINE_COMMENT, "-- fmt: on"),  FEED, TOKEN(PLACEHOLDER, "?")};
+    static const struct sheet_token named[] = {
+        {.kind = TWIGMANTLE_KIND_PLACEHOLDER, .value = VALUE(":line"), .key_class = TWIGMANTLE_KEY_NAMED, .name = VALUE("line")}};
+    static const struct sheet_token from_one[] = {
+        {.kind = TWIGMANTLE_KIND_PLACEHOLDER, .value = VALUE("$2"), .key_class = TWIGMANTLE_KEY_ONE_INDEXED, .number = 2},
+        {.kind = TWIGMANTLE_KIND_PLACEHOLDER, .value = VALUE("?0"), .key_class = TWIGMANTLE_KEY_ZERO_INDEXED, .number = 0},
+        {.kind = TWIGMANTLE_KIND_PLACEHOLDER, .value = VALUE("$0"), .key_class = TWIGMANTLE_KEY_ONE_INDEXED, .number = 0}};
+    static const struct sheet_param list[] = {{.value = VALUE("7")}, {.value = VALUE("12")}};
+    static const struct sheet_param names[] = {{VALUE("line"), VALUE("3")}, {VALUE("line"), VALUE("4")}};
+    struct sheet_plan plan = filled(LIST(three), TWIGMANTLE_MODE_INDEXED, LIST(list));
+    expect("placeholders in turn", &plan, PLENTY, TEXT("7 12 ?"));
+    plan = filled(LIST(off), TWIGMANTLE_MODE_INDEXED, LIST(list));
+    expect("a placeholder switched off", &plan, PLENTY, TEXT("?x7"));
+    plan = filled(LIST(named), TWIGMANTLE_MODE_NAMED, LIST(names));
+    expect("the first of two names", &plan, PLENTY, TEXT("3"));
+    plan = filled(from_one, 2, TWIGMANTLE_MODE_INDEXED, LIST(list));
+    expect("numbers", &plan, PLENTY, TEXT("12 7"));
+    plan.token_count = 3;
+    expect("a number from one that is 0", &plan, PLENTY, REFUSAL(5, 2));
+    plan.mode = TWIGMANTLE_MODE_NONE;
+    plan.param_count = 0;
+    expect("the same with no parameters", &plan, PLENTY, TEXT("$2 ?0 $0"));
+}
+
+static void known_brackets(expect *expect)
+{
+    static const struct sheet_token block[] = {TOKEN(OPEN_PAREN, "("), TOKEN(WORD, "a"), TOKEN(CLOSE_PAREN, ")")};
+    static const struct sheet_token folded[] = {{.kind = TWIGMANTLE_KIND_RESERVED_TOP_LEVEL, .value = VALUE("CREATE"), .create = 1},
+                                                TOKEN(OPEN_PAREN, "("), TOKEN(WORD, "a"), TOKEN(CLOSE_PAREN, ")")};
+    static struct sheet_token open[TWIGMANTLE_MOST_DEPTH + 1];
+    static char opened[2 * TWIGMANTLE_MOST_DEPTH];
+    struct sheet_plan plan = of(LIST(block));
+    plan.options.block = 3;
+    expect("a block of 3", &plan, PLENTY, TEXT("(a)"));
+    plan.options.block = 2;
+    expect("a block over 2", &plan, PLENTY, TEXT("(\n  a\n)"));
+    plan = of(LIST(folded));
+    plan.options.block = plan.options.top_level = 0;
+    expect("a folded block with no entry left", &plan, PLENTY, REFUSAL(8, 3));
+    for (size_t i = 0; i <= TWIGMANTLE_MOST_DEPTH; i++)
+        open[i] = block[0];
+    for (size_t i = 0; i + 1 < sizeof opened; i++)
+        opened[i] = i % 2 == 0 ? '(' : '\n';
+    plan = of(open, TWIGMANTLE_MOST_DEPTH);
+    plan.options.block = plan.options.indent = 0;
+    expect("128 brackets", &plan, PLENTY, TEXT(opened));
+    plan.token_count++;
+    expect("129 brackets", &plan, PLENTY, REFUSAL(6, 128));
+}
+
+static void known_sheets(expect *expect)
+{
+    known_queries(expect);
+    known_words(expect);
+    known_placeholders(expect);
+    known_brackets(expect);
+}
+
+#endif
