@@ -15,7 +15,9 @@ fn main() {
     println!("cargo:rerun-if-env-changed=TWIGMANTLE_RUST");
     println!("cargo:rerun-if-changed=build.rs");
     if env::var_os("CARGO_FEATURE_CALL").is_some() {
-        link(&home.join("../target/staticlib"));
+        println!("cargo:rerun-if-env-changed=TWIGMANTLE_LIBRARY");
+        let folder = env::var_os("TWIGMANTLE_LIBRARY").unwrap_or("../target/staticlib".into());
+        link(&home.join(folder));
     }
 
     let mut root = String::new();

@@ -73,7 +73,7 @@ compare show FILE [ROOM]
 compare starred
 compare answers N SEED FILE
 compare samples FOLDER
-compare speed SEED (built with --profile speed --features call)";
+compare speed SEED [PART] (built with --profile speed --features call)";
 
 fn main() -> ExitCode {
     oracle::silence_panics();
@@ -106,7 +106,9 @@ fn run(words: &[&str]) -> Option<bool> {
         ["show", file] => Some(show::run(file, 65536)),
         ["show", file, room] => Some(show::run(file, room.parse().ok()?)),
         #[cfg(feature = "call")]
-        ["speed", seed] => Some(speed::run(seed.parse().ok()?)),
+        ["speed", seed] => Some(speed::run(seed.parse().ok()?, "")),
+        #[cfg(feature = "call")]
+        ["speed", seed, part] => Some(speed::run(seed.parse().ok()?, part)),
         ["starred"] => Some(starred::run()),
         ["answers", n, seed, file] => Some(answers::run(n.parse().ok()?, seed.parse().ok()?, file)),
         ["samples", folder] => Some(samples::run(folder)),

@@ -1,2 +1,3 @@
 pub mod PartLaws
 pub mod SameLaws
+pub mod RunLaws
