@@ -99,13 +99,13 @@ pub fn sheets() -> Vec<(String, Costly)> {
     let flat = Options { block: u32::MAX, ..plain };
     let mut sheets = vec![
         ("names, last byte".into(), names(LONG, LONG - 1)),
-        ("names, middle byte".into(), names(LONG, LONG / 2)),
+        ("names, near the end".into(), names(LONG, LONG - 10)),
     ];
     for length in [6, 15, 31, 63, 255, 600] {
         sheets.push((format!("names of {length}"), names(length, length / 2)));
     }
     sheets.push(("keep words, last byte".into(), keep_words(LONG, LONG - 1)));
-    sheets.push(("keep words, middle byte".into(), keep_words(LONG, LONG / 2)));
+    sheets.push(("keep words, near the end".into(), keep_words(LONG, LONG - 10)));
     sheets.push(("keep words of 15".into(), keep_words(15, 7)));
     for kind in 0..17 {
         for (what, fill) in [("letters", b'a'), ("blanks", b' '), ("line feeds", b'\n')] {

@@ -6,7 +6,7 @@ use native.Mathlib.Nat.{sub-zero}
 use native.Mathlib.Numerals.{add-one}
 use native.Mathlib.Omega.{arith}
 use lib.ListN.{length, take, drop, getD, length-take, length-drop, drop-of-length-le}
-use lib.Seq.{take-suc, take-nil, drop-cons, drop-drop, getD-take, getD-drop}
+use lib.Seq.{take-suc, take-nil, take-add, drop-cons, drop-drop, getD-take, getD-drop}
 use Rattle.ascii.specs.Part.{part}
 
 drop-take : (j n : ℕ) (l : List ℕ) → drop j (take n l) ≡ take (n - j) (drop j l)
@@ -15,14 +15,9 @@ drop-take (suc j) zero l = let e : 0 - suc j ≡ 0 = omega arith in rw e
 drop-take (suc j) (suc n) [] = sym (take-nil (suc n - suc j))
 drop-take (suc j) (suc n) (x ∷ xs) = let e : suc n - suc j ≡ n - j = omega arith in rw e (drop-take j n xs)
 
-take-more : (i k : ℕ) (l : List ℕ) → take (i + k) l ≡ take i l ++ take k (drop i l)
-take-more zero k l = let e : 0 + k ≡ k = omega arith in rw e
-take-more (suc i) k [] = let e : suc i + k ≡ suc (i + k) = omega arith in rw e (sym (take-nil k))
-take-more (suc i) k (x ∷ xs) = let e : suc i + k ≡ suc (i + k) = omega arith in rw e (ap (λ (l : List ℕ). x ∷ l) (take-more i k xs))
-
 module _ (s : List ℕ) (start : ℕ) where
   pub part-more : (i k : ℕ) → part s start (i + k) ≡ part s start i ++ part s (start + i) k
-  part-more i k = take-more i k (drop start s) ∙ ap (λ (l : List ℕ). part s start i ++ take k l) (drop-drop i start s)
+  part-more i k = take-add i k (drop start s) ∙ ap (λ (l : List ℕ). part s start i ++ take k l) (drop-drop i start s)
 
   -- a part, a byte at a time
   pub part-cons : (n : ℕ) → start < length s → part s start (suc n) ≡ getD s start 0 ∷ part s (start + 1) n

@@ -2,10 +2,11 @@
 use rules::Case;
 ghost use mathlib.Core.Path.{_≡_};
 ghost use Prim.Native.Nat.{_+_, _≤_, _<_};
+ghost use lib.Dec.{eqb};
 ghost use lib.ListN.{length};
-ghost use Rattle.rules.specs.Base.{same};
+ghost use Rattle.rules.specs.Base.{if_then_else_, same};
 ghost use Rattle.rules.specs.Text.{isBlank, isWhite, toUpper, toLower, byteInCase, inCase, isLower};
-ghost use Rattle.ascii.specs.Part.{part, number, Bytes};
+ghost use Rattle.ascii.specs.Part.{part, number, Bytes, has, before};
 
 pub fn is_blank(b: u8) -> bool
     ensures { λ r. ⌜ r ≡ isBlank b ⌝ }
@@ -181,4 +182,47 @@ pub fn same_bytes(src: &[u8], start: usize, n: usize, other: &[u8], from: usize,
         return same_cased(src, start, n, Case::AsIs, other, from, m);
     }
     same_long(src, start, other, from, n)
+}
+
+// ---- the first byte of a kind
+
+fn equal(a: u8, b: u8) -> u8
+    ensures { λ r. ⌜ r ≡ (if eqb a b then 1 else 0) ⌝ }
+{
+    if a == b { 1 } else { 0 }
+}
+
+// No branch for each byte, as above.
+fn in_run(src: &[u8], start: usize, n: usize, b: u8) -> bool
+    requires { ⌜ start + n ≤ length (now src) ⌝ }
+    ensures { λ r. ⌜ r ≡ has b (part (now (src .entry)) start n) ⌝ }
+{
+    let mut all: u8 = 0;
+    let mut i = 0;
+    while i < n {
+        all |= equal(src[start + i], b);
+        i += 1;
+    }
+    all != 0
+}
+
+// How many bytes stand before the first b.
+pub fn find(src: &[u8], start: usize, n: usize, b: u8) -> usize
+    requires { ⌜ start + n ≤ length (now src) ⌝ }
+    ensures { λ r. ⌜ (r ≡ before b (part (now (src .entry)) start n)) × (r ≤ n) ⌝ }
+{
+    let mut i = 0;
+    while 16 <= n - i {
+        if in_run(src, start + i, 16, b) {
+            break;
+        }
+        i += 16;
+    }
+    while i < n {
+        if src[start + i] == b {
+            return i;
+        }
+        i += 1;
+    }
+    i
 }

@@ -1,4 +1,5 @@
 // The end of a layout: the text is trimmed at both ends, and its lines and width are counted.
+use ascii::find;
 use ascii::is_white;
 use text::Text;
 use text::fill;
@@ -87,22 +88,18 @@ pub fn lines_width(text: &[u8], len: usize) -> Size
     }
     let mut lines = 1;
     let mut best = 0;
-    let mut from = 0;
     let mut i = 0;
     while i < len {
-        if text[i] != 10 {
-            i += 1;
-            continue;
+        let run = find(text, i, len - i, 10);
+        best = larger(run, best);
+        i += run;
+        if i == len {
+            return Size { lines, width: best };
         }
         lines += 1;
-        best = larger(i - from, best);
         i += 1;
-        from = i;
     }
-    Size {
-        lines,
-        width: larger(i - from, best),
-    }
+    Size { lines, width: best }
 }
 
 // ---- the whole
