@@ -11,6 +11,7 @@ use crate::sheet::{Sheet, in_turn};
 use shapes::{Maker, SHAPES};
 
 mod costly;
+pub mod search;
 mod shapes;
 
 const SIZES: [usize; 4] = [16, 128, 512, 1024];

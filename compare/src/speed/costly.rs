@@ -3,7 +3,7 @@
 use crate::sheet::*;
 
 /// The longest value of which there are two at different places.
-const LONG: u32 = 32767;
+pub const LONG: u32 = 32767;
 
 /// Records and bodies as they stand in a sheet: places may be shared.
 #[derive(Clone, Default)]
@@ -22,14 +22,15 @@ impl Costly {
         let Options { indent, case, inline, lines, block, arguments, top_level } = self.options;
         let counts = [self.tokens.len(), self.params.len(), self.keeps.len(), self.body.len()];
         let [n, p, k, b] = counts.map(|count| count as u32);
-        let head = [n, p, k, b, self.mode, indent, case, inline, lines, block, arguments, top_level];
+        let head =
+            [n, p, k, b, self.mode, indent, case, inline, lines, block, arguments, top_level];
         let words = head.iter().chain(self.tokens.as_flattened());
         let words = words.chain(self.params.as_flattened()).chain(self.keeps.as_flattened());
         words.flat_map(|word| word.to_le_bytes()).chain(self.body.iter().copied()).collect()
     }
 }
 
-fn token(kind: u8, start: u32, length: u32) -> [u32; 5] {
+pub fn token(kind: u8, start: u32, length: u32) -> [u32; 5] {
     [kind.into(), start, length, 0, 0]
 }
 
@@ -62,11 +63,11 @@ fn keep_words(length: u32, odd: u32) -> Costly {
     }
 }
 
-/// Each token as long as can be.
+/// Each token as long as can be; there is room for 128 opening brackets.
 fn long_values(kind: u8, fill: u8, case: u32) -> Costly {
     Costly {
         options: Options { case, ..Options::default() },
-        tokens: vec![token(kind, 0, LONG); 1024],
+        tokens: vec![token(kind, 0, LONG); if kind == OPEN { 128 } else { 1024 }],
         body: vec![fill; LONG as usize],
         ..Costly::default()
     }
@@ -107,32 +108,78 @@ pub fn sheets() -> Vec<(String, Costly)> {
     sheets.push(("keep words, last byte".into(), keep_words(LONG, LONG - 1)));
     sheets.push(("keep words, near the end".into(), keep_words(LONG, LONG - 10)));
     sheets.push(("keep words of 15".into(), keep_words(15, 7)));
-    for kind in 0..17 {
-        for (what, fill) in [("letters", b'a'), ("blanks", b' '), ("line feeds", b'\n')] {
-            let name = format!("{} of {what}", NAMES[kind as usize]);
-            sheets.push((name, long_values(kind, fill, (kind as u32) % 3)));
-        }
+    let long = [
+        ("words of letters", WORD, b'a', 0),
+        ("words of blanks", WORD, b' ', 0),
+        ("words of line feeds", WORD, b'\n', 0),
+        ("reserved words of letters", RESERVED, b'a', 1),
+        ("reserved words of blanks", RESERVED, b' ', 1),
+        ("top words of letters", TOP_LEVEL, b'a', 2),
+        ("newline words of letters", NEWLINE, b'a', 1),
+        ("brackets of letters", OPEN, b'a', 1),
+        ("types of line feeds", TYPE_SPECIFIER, b'\n', 0),
+        ("placeholders of letters", PLACEHOLDER, b'a', 0),
+        ("line comments of letters", LINE_COMMENT, b'a', 0),
+        ("block comments of letters", BLOCK_COMMENT, b'a', 0),
+        ("block comments of blanks", BLOCK_COMMENT, b' ', 0),
+        ("block comments of line feeds", BLOCK_COMMENT, b'\n', 0),
+    ];
+    for (name, kind, fill, case) in long {
+        sheets.push((name.into(), long_values(kind, fill, case)));
     }
     let comment = token(LINE_COMMENT, 2, 3);
     let (comma, word) = (token(OPERATOR, 5, 1), token(WORD, 6, 1));
     let text = "()--x,a;--";
     sheets.extend([
-        ("comments after blanks".into(), turns(plain, &[run_of(WHITESPACE, 10), comment], 1024, text, b' ')),
-        ("comments after letters".into(), turns(plain, &[run_of(STRING, 10), comment, token(WHITESPACE, 0, 0)], 1024, text, b'y')),
+        (
+            "comments after blanks".into(),
+            turns(plain, &[run_of(WHITESPACE, 10), comment], 1024, text, b' '),
+        ),
+        (
+            "comments after letters".into(),
+            turns(plain, &[run_of(STRING, 10), comment, token(WHITESPACE, 0, 0)], 1024, text, b'y'),
+        ),
         ("commas after blanks".into(), turns(plain, &[run_of(WORD, 10), comma], 1024, text, b' ')),
-        ("types after blanks".into(), turns(plain, &[run_of(WORD, 10), token(TYPE_SPECIFIER, 6, 1)], 1024, text, b' ')),
+        (
+            "types after blanks".into(),
+            turns(plain, &[run_of(WORD, 10), token(TYPE_SPECIFIER, 6, 1)], 1024, text, b' '),
+        ),
         ("blanks switched".into(), turns(plain, &[run_of(LINE_COMMENT, 8)], 1024, text, b' ')),
-        ("separators".into(), turns(Options { lines: 255, ..plain }, &[token(OPERATOR, 7, 1)], 1024, text, b' ')),
+        (
+            "separators".into(),
+            turns(Options { lines: 255, ..plain }, &[token(OPERATOR, 7, 1)], 1024, text, b' '),
+        ),
         ("lists at depth".into(), at_depth(wide, 128, &[word, comma], text, b' ')),
         ("comments at depth".into(), at_depth(wide, 128, &[comment], text, b' ')),
         ("words at depth".into(), at_depth(wide, 127, &[token(NEWLINE, 6, 1)], text, b' ')),
-        ("top words at depth".into(), at_depth(wide, 100, &[token(TOP_LEVEL, 6, 1), word], text, b' ')),
-        ("brackets at depth".into(), at_depth(wide, 127, &[token(OPEN, 0, 1), token(CLOSE, 1, 1)], text, b' ')),
-        ("brackets inline".into(), at_depth(flat, 127, &[token(OPEN, 0, 1), token(CLOSE, 1, 1)], text, b' ')),
-        ("brackets not inline".into(), at_depth(Options { block: 600, ..plain }, 120, &[token(OPEN, 0, 1), word, word, token(CLOSE, 1, 1)], text, b' ')),
-        ("open brackets alone".into(), turns(flat, &[token(OPEN, 0, 1); 8].map(|t| t), 128, text, b' ')),
+        (
+            "top words at depth".into(),
+            at_depth(wide, 100, &[token(TOP_LEVEL, 6, 1), word], text, b' '),
+        ),
+        (
+            "brackets at depth".into(),
+            at_depth(wide, 127, &[token(OPEN, 0, 1), token(CLOSE, 1, 1)], text, b' '),
+        ),
+        (
+            "brackets inline".into(),
+            at_depth(flat, 127, &[token(OPEN, 0, 1), token(CLOSE, 1, 1)], text, b' '),
+        ),
+        (
+            "brackets not inline".into(),
+            at_depth(
+                Options { block: 600, ..plain },
+                120,
+                &[token(OPEN, 0, 1), word, word, token(CLOSE, 1, 1)],
+                text,
+                b' ',
+            ),
+        ),
+        ("open brackets alone".into(), turns(flat, &[token(OPEN, 0, 1)], 128, text, b' ')),
         ("white tokens".into(), turns(plain, &[token(WHITESPACE, 9, 1)], 1024, "         ", b' ')),
-        ("white before each".into(), turns(plain, &[token(WHITESPACE, 10, 1), token(NEWLINE, 6, 1)], 1024, text, b' ')),
+        (
+            "white before each".into(),
+            turns(plain, &[token(WHITESPACE, 10, 1), token(NEWLINE, 6, 1)], 1024, text, b' '),
+        ),
     ]);
     let lines = Costly {
         body: b"\n x".iter().copied().cycle().take(LONG as usize).collect(),

@@ -15,8 +15,18 @@ pub const SHAPES: [(&str, Maker); 5] = [
 ];
 
 const NAMES: [&str; 12] = [
-    "call_id", "line", "caller", "call_time", "desk", "station", "screener", "topic", "call_note",
-    "region", "host_name", "line_number",
+    "call_id",
+    "line",
+    "caller",
+    "call_time",
+    "desk",
+    "station",
+    "screener",
+    "topic",
+    "call_note",
+    "region",
+    "host_name",
+    "line_number",
 ];
 const KEEPS: [&str; 12] =
     ["select", "from", "where", "and", "or", "in", "on", "set", "as", "union all", "case", "end"];

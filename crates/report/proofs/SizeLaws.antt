@@ -6,21 +6,25 @@ use Prim.Native.Nat.{ℕ, suc, _+_, _-_, _≤_, _<_, max}
 use native.Mathlib.Numerals.{add-one}
 use native.Mathlib.Omega.{arith}
 use lib.Dec.{eqb}
-use lib.ListN.{length, take, drop, replicate, length-drop}
+use lib.ListN.{length, take, drop, getD, replicate}
 use lib.Seq.{length-take-le, take-append-seam, drop-drop}
+use borrow.Author.Tests.{eq-eqb, ne-eqb}
+use Rattle.rules.specs.Base.{if_then_else_}
 use Rattle.rules.specs.Text.{Text, fits, refused, isWhite, trimStart, trimmed, change, cutWhite, lineFeeds, lines, widthFrom, width}
 use Rattle.ascii.specs.Part.{part, before}
 use Rattle.ascii.proofs.PartLaws.{part-drop}
-use Rattle.ascii.proofs.FindLaws.{before-next}
 use Rattle.text.specs.declared.Text.{Text as Code}
 use Rattle.text.specs.Held.{textOf, codeOf, bytesOf, Laid}
 use Rattle.text.proofs.HeldLaws.{relaid, onward}
 use Rattle.report.specs.declared.Size.{Size}
 use Rattle.report.specs.declared.Finished.{Finished}
 use Rattle.report.specs.Finished.{sizeOf, finished}
-use Rattle.report.proofs.TrimLaws.{take-end}
+use Rattle.report.proofs.TrimLaws.{take-next, take-end}
 
--- ---- a line at a time
+width-by : (at best x : ℕ) (xs : List ℕ) (b : Bool) → eqb x 10 ≡ b → widthFrom at best (x ∷ xs) ≡ widthFrom (if b then 0 else suc at) (if b then max at best else best) xs
+width-by at best x xs b e = ap (λ (a : Bool). widthFrom (if a then 0 else suc at) (if a then max at best else best) xs) e
+
+-- ---- a run of a line
 
 feeds-run : (v : List ℕ) → lineFeeds (drop (before 10 v) v) ≡ lineFeeds v
 feeds-run [] = refl
@@ -42,45 +46,65 @@ width-run (x ∷ xs) at best = go (eqb x 10) refl (width-run xs (suc at) best)
         rw (k, l)
     go false e f = let k : at + suc (before 10 xs) ≡ suc at + before 10 xs = omega arith in rw (e, k) f
 
-module _ (d : List ℕ) (len i r : ℕ) (h : len ≤ length d) (c : i < len) (e : r ≡ before 10 (part d i (len - i))) where
+module _ (d : List ℕ) (len i r : ℕ) (e : r ≡ before 10 (part d i (len - i))) where
   run-is : r ≡ before 10 (drop i (take len d))
   run-is = let k : 0 + i ≡ i = omega arith in e ∙ ap (before 10) (sym (part-drop d 0 len i ∙ ap (λ (j : ℕ). part d j (len - i)) k))
 
   -- the bytes after the run
-  after : drop r (drop i (take len d)) ≡ drop (i + r) (take len d)
-  after = drop-drop r i (take len d)
+  after : drop (before 10 (drop i (take len d))) (drop i (take len d)) ≡ drop (i + r) (take len d)
+  after = ap (λ (k : ℕ). drop k (drop i (take len d))) (sym run-is) ∙ drop-drop r i (take len d)
 
   pub by-run-lines : (n : ℕ) → n + lineFeeds (drop i (take len d)) ≡ lineFeeds (take len d) + 1 → n + lineFeeds (drop (i + r) (take len d)) ≡ lineFeeds (take len d) + 1
   by-run-lines n f =
-      let k : lineFeeds (drop (i + r) (take len d)) ≡ lineFeeds (drop i (take len d)) =
-      ap lineFeeds (sym after) ∙ ap (λ (j : ℕ). lineFeeds (drop j (drop i (take len d)))) run-is ∙ feeds-run (drop i (take len d)) in
+      let k : lineFeeds (drop (i + r) (take len d)) ≡ lineFeeds (drop i (take len d)) = ap lineFeeds (sym after) ∙ feeds-run (drop i (take len d)) in
       omega arith
 
-  pub by-run-width : (best : ℕ) → widthFrom 0 best (drop i (take len d)) ≡ width (take len d) → widthFrom r best (drop (i + r) (take len d)) ≡ width (take len d)
-  by-run-width best f =
-      let k : r ≡ 0 + r = omega arith in
-      ap (λ (j : ℕ). widthFrom j best (drop (i + r) (take len d))) k ∙ ap (widthFrom (0 + r) best) (sym after)
-      ∙ ap (λ (j : ℕ). widthFrom (0 + j) best (drop j (drop i (take len d)))) run-is ∙ width-run (drop i (take len d)) 0 best ∙ f
+  pub by-run-width : (from best : ℕ) → from ≤ i → widthFrom (i - from) best (drop i (take len d)) ≡ width (take len d) → widthFrom (i + r - from) best (drop (i + r) (take len d)) ≡ width (take len d)
+  by-run-width from best g f =
+      let v = drop i (take len d) in
+      let k : i + r - from ≡ i - from + r = omega arith in
+      rw k (ap (λ (j : ℕ). widthFrom (i - from + j) best (drop (i + r) (take len d))) run-is ∙ ap (widthFrom (i - from + before 10 v) best) (sym after) ∙ width-run v (i - from) best ∙ f)
 
-  module _ (z : i + r ≡ len → ⊥) (g : r ≤ len - i) where
-    feed : drop (i + r) (take len d) ≡ 10 ∷ drop (i + r + 1) (take len d)
-    feed =
-        let v = drop i (take len d) in
-        let l = length-take-le len d h in
-        let m : length v ≡ len - i = length-drop i (take len d) ∙ ap (λ (j : ℕ). j - i) l in
-        let q : r < length v = omega arith in
-        let j : i + (r + 1) ≡ i + r + 1 = omega arith in
-        sym after ∙ ap (λ (k : ℕ). drop k v) run-is ∙ before-next 10 v (rw run-is at q) ∙ ap (λ (k : ℕ). 10 ∷ drop (k + 1) v) (sym run-is)
-        ∙ ap (λ (w : List ℕ). 10 ∷ w) (drop-drop (r + 1) i (take len d) ∙ ap (λ (k : ℕ). drop k (take len d)) j)
+-- ---- a byte
 
-    pub by-fed-lines : (n : ℕ) → n + lineFeeds (drop i (take len d)) ≡ lineFeeds (take len d) + 1 → n + 1 + lineFeeds (drop (i + r + 1) (take len d)) ≡ lineFeeds (take len d) + 1
-    by-fed-lines n f =
-        let u = by-run-lines n f in
-        let k : lineFeeds (drop (i + r) (take len d)) ≡ suc (lineFeeds (drop (i + r + 1) (take len d))) = ap lineFeeds feed in
+module _ (d : List ℕ) (len i : ℕ) (h : len ≤ length d) where
+  module _ (c : i < len) where
+    pub by-line-fed : (n : ℕ) → getD d i 0 ≡ 10 → n + lineFeeds (drop i (take len d)) ≡ lineFeeds (take len d) + 1
+        → n + 1 + lineFeeds (drop (i + 1) (take len d)) ≡ lineFeeds (take len d) + 1
+    by-line-fed n z e =
+        let k : lineFeeds (drop i (take len d)) ≡ suc (lineFeeds (drop (i + 1) (take len d))) = rw (take-next d len i h c, eq-eqb (getD d i 0) 10 z) in
         omega arith
 
-    pub by-fed-width : (best m : ℕ) → m ≡ max r best → widthFrom 0 best (drop i (take len d)) ≡ width (take len d) → widthFrom 0 m (drop (i + r + 1) (take len d)) ≡ width (take len d)
-    by-fed-width best m w f = ap (λ (j : ℕ). widthFrom 0 j (drop (i + r + 1) (take len d))) w ∙ sym (ap (widthFrom r best) feed) ∙ by-run-width best f
+    pub by-line-on : (n : ℕ) → (getD d i 0 ≡ 10 → ⊥) → n + lineFeeds (drop i (take len d)) ≡ lineFeeds (take len d) + 1
+        → n + lineFeeds (drop (i + 1) (take len d)) ≡ lineFeeds (take len d) + 1
+    by-line-on n z e =
+        let k : lineFeeds (drop i (take len d)) ≡ lineFeeds (drop (i + 1) (take len d)) = rw (take-next d len i h c, ne-eqb (getD d i 0) 10 z) in
+        omega arith
+
+    pub by-width-fed : (from best m : ℕ) → getD d i 0 ≡ 10 → m ≡ max (i - from) best → widthFrom (i - from) best (drop i (take len d)) ≡ width (take len d)
+        → widthFrom (i + 1 - (i + 1)) m (drop (i + 1) (take len d)) ≡ width (take len d)
+    by-width-fed from best m z f e =
+        let at : ℕ = i - from in
+        let o : i + 1 - (i + 1) ≡ 0 = omega arith in
+        let k : widthFrom at best (drop i (take len d)) ≡ widthFrom 0 (max at best) (drop (i + 1) (take len d)) =
+        ap (widthFrom at best) (take-next d len i h c) ∙ width-by at best (getD d i 0) (drop (i + 1) (take len d)) true (eq-eqb (getD d i 0) 10 z) in
+        rw o (ap (λ (a : ℕ). widthFrom 0 a (drop (i + 1) (take len d))) f ∙ sym k ∙ e)
+
+    pub by-width-on : (from best : ℕ) → from ≤ i → (getD d i 0 ≡ 10 → ⊥) → widthFrom (i - from) best (drop i (take len d)) ≡ width (take len d)
+        → widthFrom (i + 1 - from) best (drop (i + 1) (take len d)) ≡ width (take len d)
+    by-width-on from best g z e =
+        let at : ℕ = i - from in
+        let o : i + 1 - from ≡ suc at = omega arith in
+        let k : widthFrom at best (drop i (take len d)) ≡ widthFrom (suc at) best (drop (i + 1) (take len d)) =
+        ap (widthFrom at best) (take-next d len i h c) ∙ width-by at best (getD d i 0) (drop (i + 1) (take len d)) false (ne-eqb (getD d i 0) 10 z) in
+        rw o (sym k ∙ e)
+
+module _ (d : List ℕ) (len i r : ℕ) (h : len ≤ length d) (c : i < len) (z : getD d i 0 ≡ 10 → ⊥) (e : r ≡ before 10 (part d (i + 1) (len - (i + 1)))) where
+  pub by-long-lines : (n : ℕ) → n + lineFeeds (drop i (take len d)) ≡ lineFeeds (take len d) + 1 → n + lineFeeds (drop (i + 1 + r) (take len d)) ≡ lineFeeds (take len d) + 1
+  by-long-lines n f = by-run-lines d len (i + 1) r e n (by-line-on d len i h c n z f)
+
+  pub by-long-width : (from best : ℕ) → from ≤ i → widthFrom (i - from) best (drop i (take len d)) ≡ width (take len d) → widthFrom (i + 1 + r - from) best (drop (i + 1 + r) (take len d)) ≡ width (take len d)
+  by-long-width from best g f = by-run-width d len (i + 1) r e from best (omega arith) (by-width-on d len i h c from best g z f)
 
 size : ℕ → ℕ → Size
 size n m = record { lines = n; width = m }
@@ -98,15 +122,6 @@ by-size d len i n at best m h c z e f g =
     let o : n ≡ lines (take len d) = sym (lines-some (take len d) (omega arith) ∙ sym e ∙ omega arith) in
     let q : max at best ≡ widthFrom at best (drop i (take len d)) = rw (take-end d len i h c) in
     ap (λ (a : ℕ). size a m) o ∙ ap (size (lines (take len d))) (g ∙ q ∙ f)
-
-pub by-last-line : (d : List ℕ) (len i r n best m : ℕ) → len ≤ length d → i < len → r ≡ before 10 (part d i (len - i)) → i + r ≡ len → (len ≡ 0 → ⊥) → m ≡ max r best
-    → n + lineFeeds (drop i (take len d)) ≡ lineFeeds (take len d) + 1 → widthFrom 0 best (drop i (take len d)) ≡ width (take len d) → record { lines = n; width = m } ≡ sizeOf (take len d)
-by-last-line d len i r n best m h c e g z w f k =
-    by-size d len (i + r) n r best m h (omega arith) z (by-run-lines d len i r h c e n f) (by-run-width d len i r h c e best k) w
-
-pub by-fed-end : (d : List ℕ) (len i n best : ℕ) → len ≤ length d → len ≤ i → (len ≡ 0 → ⊥) → n + lineFeeds (drop i (take len d)) ≡ lineFeeds (take len d) + 1
-    → widthFrom 0 best (drop i (take len d)) ≡ width (take len d) → record { lines = n; width = best } ≡ sizeOf (take len d)
-by-fed-end d len i n best h c z f k = by-size d len i n 0 best best h c z f k (omega arith)
 
 pub by-no-size : (d : List ℕ) (len : ℕ) → len ≡ 0 → record { lines = 0; width = 0 } ≡ sizeOf (take len d)
 by-no-size d len z = rw z

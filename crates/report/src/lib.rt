@@ -88,18 +88,27 @@ pub fn lines_width(text: &[u8], len: usize) -> Size
     }
     let mut lines = 1;
     let mut best = 0;
+    let mut from = 0;
     let mut i = 0;
     while i < len {
-        let run = find(text, i, len - i, 10);
-        best = larger(run, best);
-        i += run;
-        if i == len {
-            return Size { lines, width: best };
+        if text[i] != 10 {
+            i += 1;
+            // A long line is passed many bytes at a time; for a short one that would be dear.
+            if i - from != 16 {
+                continue;
+            }
+            i += find(text, i, len - i, 10);
+            continue;
         }
         lines += 1;
+        best = larger(i - from, best);
         i += 1;
+        from = i;
     }
-    Size { lines, width: best }
+    Size {
+        lines,
+        width: larger(i - from, best),
+    }
 }
 
 // ---- the whole
