@@ -181,6 +181,11 @@ pub fn sheets() -> Vec<(String, Costly)> {
             turns(plain, &[token(WHITESPACE, 10, 1), token(NEWLINE, 6, 1)], 1024, text, b' '),
         ),
     ]);
+    let after = [token(WORD, 6, 1), run_of(WORD, 10)];
+    sheets.push(("line feeds after words".into(), turns(plain, &after, 1023, text, b'\n')));
+    let mut narrow = turns(plain, &after, 1023, text, b'\n');
+    narrow.body[10..].iter_mut().step_by(2).for_each(|byte| *byte = b'a');
+    sheets.push(("lines of one byte".into(), narrow));
     let lines = Costly {
         body: b"\n x".iter().copied().cycle().take(LONG as usize).collect(),
         tokens: vec![token(BLOCK_COMMENT, 0, LONG); 64],
