@@ -74,7 +74,8 @@ compare show FILE [ROOM]
 compare starred
 compare answers N SEED FILE
 compare samples FOLDER
-compare speed SEED (built with --profile speed --features call)";
+compare speed SEED [PART] (built with --profile speed --features call)
+compare search N SEED (the same)";
 
 fn main() -> ExitCode {
     oracle::silence_panics();
@@ -107,7 +108,11 @@ fn run(words: &[&str]) -> Option<bool> {
         ["show", file] => Some(show::run(file, 65536)),
         ["show", file, room] => Some(show::run(file, room.parse().ok()?)),
         #[cfg(feature = "call")]
-        ["speed", seed] => Some(speed::run(seed.parse().ok()?)),
+        ["speed", seed] => Some(speed::run(seed.parse().ok()?, "")),
+        #[cfg(feature = "call")]
+        ["speed", seed, part] => Some(speed::run(seed.parse().ok()?, part)),
+        #[cfg(feature = "call")]
+        ["search", n, seed] => Some(speed::search::run(n.parse().ok()?, seed.parse().ok()?)),
         ["starred"] => Some(starred::run()),
         ["answers", n, seed, file] => Some(answers::run(n.parse().ok()?, seed.parse().ok()?, file)),
         ["samples", folder] => Some(samples::run(folder)),

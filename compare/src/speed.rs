@@ -7,32 +7,39 @@ use std::time::{Duration, Instant};
 use crate::call;
 use crate::oracle::{self, Read};
 use crate::random::Dice;
-use crate::random::query::sized;
-use crate::sheet::{Sheet, Token, in_turn};
+use crate::sheet::{Sheet, in_turn};
+use shapes::{Maker, SHAPES};
+
+mod costly;
+pub mod search;
+mod shapes;
 
 const SIZES: [usize; 4] = [16, 128, 512, 1024];
 /// Sheets of each shape and size.
 const SHEETS: u64 = 32;
 const ROUNDS: usize = 300;
 const ROUND: Duration = Duration::from_millis(2);
+/// The time for a row whose turns are long: it has fewer rounds, but five at least.
+const ROW: Duration = Duration::from_secs(2);
 
-type Maker = fn(&mut Dice, usize) -> Vec<Token>;
-const SHAPES: [(&str, Maker); 2] = [("realistic", sized::usual), ("deep", sized::deep)];
-
-pub fn run(seed: u64) -> bool {
+/// Only the rows whose name has `part` in it.
+pub fn run(seed: u64, part: &str) -> bool {
     if checks_overflow() {
         eprintln!("build with --profile speed: this build checks every sum of the Rust");
         return false;
     }
     println!("nanoseconds a sheet, the least of {ROUNDS} rounds over {SHEETS} sheets, seed {seed}");
     println!(
-        "shape      tokens    call  Rust from bytes  format alone  to bytes  to format  a token"
+        "shape                            tokens       call  Rust from bytes  format alone  to bytes  to format   a token"
     );
-    for (shape, make) in SHAPES {
+    for (shape, make) in SHAPES.into_iter().filter(|shape| shape.0.contains(part)) {
         for size in SIZES {
             let sheets: Vec<_> = (0..SHEETS).map(|turn| sheet(make, seed, turn, size)).collect();
             row(shape, size, &sheets);
         }
+    }
+    for (name, costly) in costly::sheets().iter().filter(|sheet| sheet.0.contains(part)) {
+        row(name, costly.tokens.len(), &[costly.encode()]);
     }
     clearing();
     true
@@ -44,8 +51,7 @@ fn checks_overflow() -> bool {
 }
 
 fn sheet(make: Maker, seed: u64, turn: u64, size: usize) -> Vec<u8> {
-    let tokens = make(&mut Dice::new(seed, turn), size);
-    Sheet { tokens, ..Sheet::default() }.encode(&mut in_turn)
+    make(&mut Dice::new(seed, turn), size).encode(&mut in_turn)
 }
 
 fn read(bytes: &[u8]) -> Read<'_> {
@@ -55,11 +61,11 @@ fn read(bytes: &[u8]) -> Read<'_> {
 fn row(shape: &str, size: usize, sheets: &[Vec<u8>]) {
     let reads: Vec<Read> = sheets.iter().map(|bytes| read(bytes)).collect();
     let lengths: Vec<usize> = reads.iter().map(|read| read.format().len()).collect();
-    // A buffer of twice the text's length: the call clears it all.
-    let mut buffer = vec![0; 2 * lengths.iter().copied().max().unwrap_or(0)];
+    let rooms: Vec<usize> = sheets.iter().zip(&lengths).map(|(s, n)| room(s, 2 * n)).collect();
+    let mut buffer = vec![0; rooms.iter().copied().max().unwrap_or(0)];
     let mut call = || {
-        for (bytes, length) in sheets.iter().zip(&lengths) {
-            let report = call::layout(bytes, &mut buffer[..2 * length]);
+        for ((bytes, length), room) in sheets.iter().zip(&lengths).zip(&rooms) {
+            let report = call::layout(bytes, &mut buffer[..*room]);
             assert_eq!((report.refusal, report.length), (0, *length as u64));
         }
     };
@@ -69,8 +75,17 @@ fn row(shape: &str, size: usize, sheets: &[Vec<u8>]) {
     let [call, whole, alone] = times.map(|time| time / sheets.len() as f64);
     let (to_whole, to_alone, token) = (call / whole, call / alone, call / size as f64);
     println!(
-        "{shape:10} {size:6} {call:7.0} {whole:16.0} {alone:13.0} {to_whole:9.2} {to_alone:10.2} {token:8.1}"
+        "{shape:32} {size:6} {call:10.0} {whole:16.0} {alone:13.0} {to_whole:9.2} {to_alone:10.2} {token:9.1}"
     );
+}
+
+/// A buffer of twice the text's length, or a longer one where white that is cut later does not fit. The call clears it all.
+fn room(sheet: &[u8], least: usize) -> usize {
+    let mut room = least;
+    while call::layout(sheet, &mut vec![0; room]).refusal == 9 {
+        room = 2 * room + 1024;
+    }
+    room
 }
 
 /// What an empty sheet costs, and what a long buffer adds to it.
@@ -97,7 +112,11 @@ fn least<const N: usize>(mut runs: [&mut dyn FnMut(); N]) -> [f64; N] {
         turns.unwrap_or(1)
     });
     let mut best = [f64::INFINITY; N];
-    for _ in 0..ROUNDS {
+    let started = Instant::now();
+    for round in 0..ROUNDS {
+        if round >= 5 && started.elapsed() >= ROW {
+            break;
+        }
         for i in 0..N {
             let started = Instant::now();
             (0..turns[i]).for_each(|_| runs[i]());

@@ -5,15 +5,16 @@ use mathlib.Core.List.{List, [], _∷_}
 use Prim.Native.Nat.{ℕ, suc, _+_, _-_, _*_, _≤_, _<_}
 use native.Mathlib.Numerals.{add-one}
 use native.Mathlib.Omega.{arith}
-use lib.Dec.{eqb}
+use lib.Dec.{eqb, ltb, leb·suc-suc}
 use lib.ListN.{length, take, drop, getD}
 use lib.Seq.{getD-take, getD-drop, drop-cons}
-use borrow.Author.Tests.{eq-eqb, ne-eqb}
+use borrow.Author.Tests.{eq-eqb, ne-eqb, eqb-true, eqb-false, lt-ltb}
 use Rattle.rules.specs.declared.Place.{Place}
 use Rattle.rules.specs.Base.{same, anyOf}
 use Rattle.rules.specs.Words.{wordAt, placeAt, tokenFrom, tokenAt}
 use Rattle.rules.specs.Sheet.{part, tokenOf}
 use Rattle.tokens.specs.Placed.{Within}
+use Rattle.ascii.specs.Part.{before}
 use Rattle.around.specs.Lists.{length-part}
 
 -- ---- its length
@@ -67,34 +68,22 @@ module _ (s : List ℕ) (base i : ℕ) (v : Place) (w : Within s base i) (is : v
 
 -- ---- a value with a line feed
 
--- a line feed from one offset up to another
-unfoldable pub feedIn : List ℕ → ℕ → ℕ → Bool
-feedIn s at end = anyOf (eqb 10) (take (end - at) (drop at s))
+found-by : (x : ℕ) (b : Bool) → eqb x 10 ≡ b → eqb 10 x ≡ b
+found-by x true e = eq-eqb 10 x (sym (eqb-true x 10 e))
+found-by x false e = ne-eqb 10 x (λ z. eqb-false x 10 e (sym z))
 
-module _ (s : List ℕ) (at end : ℕ) where
-  pub feed-none : end ≤ at → feedIn s at end ≡ false
-  unfolding feedIn
-  feed-none h = let e : end - at ≡ 0 = omega arith in rw e
+before-feed : (v : List ℕ) → ltb (before 10 v) (length v) ≡ anyOf (eqb 10) v
+before-feed [] = refl
+before-feed (x ∷ xs) = go (eqb x 10) refl (before-feed xs)
+  where
+    go : (b : Bool) → eqb x 10 ≡ b → ltb (before 10 xs) (length xs) ≡ anyOf (eqb 10) xs → ltb (before 10 (x ∷ xs)) (length (x ∷ xs)) ≡ anyOf (eqb 10) (x ∷ xs)
+    go true e f = rw (e, found-by x true e) (lt-ltb 0 (length (x ∷ xs)) (omega arith))
+    go false e f = rw (e, found-by x false e, leb·suc-suc) f
 
-  feed-step : at < end → end ≤ length s → feedIn s at end ≡ (eqb 10 (getD s at 0) || feedIn s (at + 1) end)
-  unfolding feedIn
-  feed-step h l =
-      let e : end - at ≡ suc (end - (at + 1)) = omega arith in
-      let i : at < length s = omega arith in
-      rw (e, drop-cons s at 0 i, add-one)
-
-  pub by-feed : (b : Bool) → at < end → end ≤ length s → getD s at 0 ≡ 10 → feedIn s at end ≡ b → true ≡ b
-  by-feed b h l x e = let z = eq-eqb 10 (getD s at 0) (sym x) in (rw z at (sym (feed-step h l))) ∙ e
-
-  pub by-no-feed : (b : Bool) → at < end → end ≤ length s → (getD s at 0 ≡ 10 → ⊥) → feedIn s at end ≡ b → feedIn s (at + 1) end ≡ b
-  by-no-feed b h l x e = let z = ne-eqb 10 (getD s at 0) (λ q. x (sym q)) in (rw z at (sym (feed-step h l))) ∙ e
-
-  pub by-feed-end : (b : Bool) → end ≤ at → feedIn s at end ≡ b → false ≡ b
-  by-feed-end b h e = sym (feed-none h) ∙ e
-
--- the whole value
-pub feed-all : (s : List ℕ) (base i : ℕ) (v : Place) (u l : ℕ) → v ≡ tokenAt s i .value → u ≡ v .start → l ≡ v .len → feedIn s (base + u) (base + u + l) ≡ anyOf (eqb 10) (tokenOf s base i .value)
-unfolding feedIn part
-feed-all s base i v u l is f g =
-    let e : base + u + l - (base + u) ≡ l = omega arith in
-    rw (e, f, g, is)
+pub by-find : (s : List ℕ) (base i : ℕ) (v : Place) (u l r : ℕ) → Within s base i → v ≡ tokenAt s i .value → u ≡ v .start → l ≡ v .len → r ≡ before 10 (take l (drop (base + u) s))
+    → ltb r l ≡ anyOf (eqb 10) (tokenOf s base i .value)
+unfolding part
+by-find s base i v u l r w is f g e =
+    let p : take l (drop (base + u) s) ≡ tokenOf s base i .value = rw (f, g, is) in
+    let n : length (tokenOf s base i .value) ≡ l = value-length s base i v w is ∙ sym g in
+    ap (λ (k : ℕ). ltb k l) (e ∙ ap (before 10) p) ∙ ap (ltb (before 10 (tokenOf s base i .value))) (sym n) ∙ before-feed (tokenOf s base i .value)

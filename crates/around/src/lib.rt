@@ -12,6 +12,7 @@ ghost use Rattle.rules.specs.Formatter.{kindIs, kindIn, previousToken, previous
 ghost use Rattle.tokens.specs.Placed.{Within};
 ghost use Rattle.around.specs.Readable.{Readable};
 ghost use Rattle.around.specs.Seen.{seenOf, seenNo};
+use ascii::find;
 use rules::TokenKind;
 use tokens::kind_at;
 use tokens::to_usize;
@@ -52,15 +53,9 @@ fn has_line_feed(sheet: &[u8], base: usize, i: usize) -> bool
     ensures { λ r. ⌜ r ≡ anyOf (eqb 10) (tokenOf (now (sheet .entry)) base i .value) ⌝ }
 {
     let v = value_at(sheet, i);
-    let mut at = base + to_usize(v.start);
-    let end = at + to_usize(v.len);
-    while at < end {
-        if sheet[at] == b'\n' {
-            return true;
-        }
-        at += 1;
-    }
-    false
+    let start = base + to_usize(v.start);
+    let n = to_usize(v.len);
+    find(sheet, start, n, b'\n') < n
 }
 
 // ---- kinds as numbers, which are compared at once

@@ -1,2 +1,4 @@
 pub mod PartLaws
 pub mod SameLaws
+pub mod RunLaws
+pub mod FindLaws

@@ -6,7 +6,7 @@ use native.Mathlib.Nat.{sub-zero}
 use native.Mathlib.Numerals.{add-one}
 use native.Mathlib.Omega.{arith}
 use lib.ListN.{length, take, drop, getD, length-take, length-drop, drop-of-length-le}
-use lib.Seq.{take-suc, take-nil, drop-cons, drop-drop, getD-take, getD-drop}
+use lib.Seq.{take-suc, take-nil, take-add, drop-cons, drop-drop, getD-take, getD-drop}
 use Rattle.ascii.specs.Part.{part}
 
 drop-take : (j n : ℕ) (l : List ℕ) → drop j (take n l) ≡ take (n - j) (drop j l)
@@ -16,6 +16,13 @@ drop-take (suc j) (suc n) [] = sym (take-nil (suc n - suc j))
 drop-take (suc j) (suc n) (x ∷ xs) = let e : suc n - suc j ≡ n - j = omega arith in rw e (drop-take j n xs)
 
 module _ (s : List ℕ) (start : ℕ) where
+  pub part-more : (i k : ℕ) → part s start (i + k) ≡ part s start i ++ part s (start + i) k
+  part-more i k = take-add i k (drop start s) ∙ ap (λ (l : List ℕ). part s start i ++ take k l) (drop-drop i start s)
+
+  -- a part, a byte at a time
+  pub part-cons : (n : ℕ) → start < length s → part s start (suc n) ≡ getD s start 0 ∷ part s (start + 1) n
+  part-cons n h = rw (drop-cons s start 0 h, add-one)
+
   pub length-part : (n : ℕ) → start + n ≤ length s → length (part s start n) ≡ n
   length-part n h = simp (length-take, length-drop) (omega arith)
 
@@ -39,3 +46,14 @@ module _ (s : List ℕ) (start : ℕ) where
 
   pub part-drop : (n j : ℕ) → drop j (part s start n) ≡ part s (start + j) (n - j)
   part-drop n j = drop-take j n (drop start s) ∙ ap (take (n - j)) (drop-drop j start s)
+
+pub eight : (s : List ℕ) (at : ℕ) → at + 8 ≤ length s → part s at 8
+    ≡ getD s at 0 ∷ getD s (at + 1) 0 ∷ getD s (at + 2) 0 ∷ getD s (at + 3) 0 ∷ getD s (at + 4) 0 ∷ getD s (at + 5) 0 ∷ getD s (at + 6) 0 ∷ getD s (at + 7) 0 ∷ []
+eight s at h =
+    let e₂ : at + 1 + 1 ≡ at + 2 = omega arith in
+    let e₃ : at + 2 + 1 ≡ at + 3 = omega arith in
+    let e₄ : at + 3 + 1 ≡ at + 4 = omega arith in
+    let e₅ : at + 4 + 1 ≡ at + 5 = omega arith in
+    let e₆ : at + 5 + 1 ≡ at + 6 = omega arith in
+    let e₇ : at + 6 + 1 ≡ at + 7 = omega arith in
+    rw (part-cons s at 7 (omega arith), part-cons s (at + 1) 6 (omega arith), e₂, part-cons s (at + 2) 5 (omega arith), e₃, part-cons s (at + 3) 4 (omega arith), e₄, part-cons s (at + 4) 3 (omega arith), e₅, part-cons s (at + 5) 2 (omega arith), e₆, part-cons s (at + 6) 1 (omega arith), e₇, part-cons s (at + 7) 0 (omega arith))

@@ -19,7 +19,7 @@ and-false : (b : Bool) → b && false ≡ false
 and-false true = refl
 and-false false = refl
 
-unlike : (v w : List ℕ) → (length v ≡ length w → ⊥) → same v w ≡ false
+pub unlike : (v w : List ℕ) → (length v ≡ length w → ⊥) → same v w ≡ false
 unlike [] [] h = absurd (h refl)
 unlike [] (y ∷ ys) h = refl
 unlike (x ∷ xs) [] h = refl
@@ -63,3 +63,9 @@ by-whole v w r e = e ∙ ap (same v) (take-length w)
 
 pub by-as-is : (v w : List ℕ) (r : Bool) → r ≡ same (inCase case.AsIs v) w → r ≡ same v w
 by-as-is v w r e = e ∙ ap (λ (l : List ℕ). same l w) (as-is v)
+
+pub by-lengths : (s o : List ℕ) (start n from m : ℕ) → (start + n ≤ length s) × (from + m ≤ length o) → (n ≡ m → ⊥) → false ≡ same (part s start n) (part o from m)
+by-lengths s o start n from m h z = by-as-is (part s start n) (part o from m) false (by-unlike s o start n from m case.AsIs h z)
+
+pub by-length : (s o : List ℕ) (start n from m : ℕ) (r : Bool) → n ≡ m → r ≡ same (part s start n) (part o from n) → r ≡ same (part s start n) (part o from m)
+by-length s o start n from m r e h = h ∙ ap (λ (k : ℕ). same (part s start n) (part o from k)) e

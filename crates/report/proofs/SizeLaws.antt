@@ -7,10 +7,12 @@ use native.Mathlib.Numerals.{add-one}
 use native.Mathlib.Omega.{arith}
 use lib.Dec.{eqb}
 use lib.ListN.{length, take, drop, getD, replicate}
-use lib.Seq.{length-take-le, take-append-seam}
+use lib.Seq.{length-take-le, take-append-seam, drop-drop}
 use borrow.Author.Tests.{eq-eqb, ne-eqb}
 use Rattle.rules.specs.Base.{if_then_else_}
 use Rattle.rules.specs.Text.{Text, fits, refused, isWhite, trimStart, trimmed, change, cutWhite, lineFeeds, lines, widthFrom, width}
+use Rattle.ascii.specs.Part.{part, before}
+use Rattle.ascii.proofs.PartLaws.{part-drop}
 use Rattle.text.specs.declared.Text.{Text as Code}
 use Rattle.text.specs.Held.{textOf, codeOf, bytesOf, Laid}
 use Rattle.text.proofs.HeldLaws.{relaid, onward}
@@ -21,6 +23,49 @@ use Rattle.report.proofs.TrimLaws.{take-next, take-end}
 
 width-by : (at best x : ℕ) (xs : List ℕ) (b : Bool) → eqb x 10 ≡ b → widthFrom at best (x ∷ xs) ≡ widthFrom (if b then 0 else suc at) (if b then max at best else best) xs
 width-by at best x xs b e = ap (λ (a : Bool). widthFrom (if a then 0 else suc at) (if a then max at best else best) xs) e
+
+-- ---- a run of a line
+
+feeds-run : (v : List ℕ) → lineFeeds (drop (before 10 v) v) ≡ lineFeeds v
+feeds-run [] = refl
+feeds-run (x ∷ xs) = go (eqb x 10) refl (feeds-run xs)
+  where
+    go : (b : Bool) → eqb x 10 ≡ b → lineFeeds (drop (before 10 xs) xs) ≡ lineFeeds xs → lineFeeds (drop (before 10 (x ∷ xs)) (x ∷ xs)) ≡ lineFeeds (x ∷ xs)
+    go true e f = let k : before 10 (x ∷ xs) ≡ 0 = rw e in rw k
+    go false e f = rw e f
+
+width-run : (v : List ℕ) (at best : ℕ) → widthFrom (at + before 10 v) best (drop (before 10 v) v) ≡ widthFrom at best v
+width-run [] at best = let e : at + 0 ≡ at = omega arith in rw e
+width-run (x ∷ xs) at best = go (eqb x 10) refl (width-run xs (suc at) best)
+  where
+    go : (b : Bool) → eqb x 10 ≡ b → widthFrom (suc at + before 10 xs) best (drop (before 10 xs) xs) ≡ widthFrom (suc at) best xs
+        → widthFrom (at + before 10 (x ∷ xs)) best (drop (before 10 (x ∷ xs)) (x ∷ xs)) ≡ widthFrom at best (x ∷ xs)
+    go true e f =
+        let k : before 10 (x ∷ xs) ≡ 0 = rw e in
+        let l : at + 0 ≡ at = omega arith in
+        rw (k, l)
+    go false e f = let k : at + suc (before 10 xs) ≡ suc at + before 10 xs = omega arith in rw (e, k) f
+
+module _ (d : List ℕ) (len i r : ℕ) (e : r ≡ before 10 (part d i (len - i))) where
+  run-is : r ≡ before 10 (drop i (take len d))
+  run-is = let k : 0 + i ≡ i = omega arith in e ∙ ap (before 10) (sym (part-drop d 0 len i ∙ ap (λ (j : ℕ). part d j (len - i)) k))
+
+  -- the bytes after the run
+  after : drop (before 10 (drop i (take len d))) (drop i (take len d)) ≡ drop (i + r) (take len d)
+  after = ap (λ (k : ℕ). drop k (drop i (take len d))) (sym run-is) ∙ drop-drop r i (take len d)
+
+  pub by-run-lines : (n : ℕ) → n + lineFeeds (drop i (take len d)) ≡ lineFeeds (take len d) + 1 → n + lineFeeds (drop (i + r) (take len d)) ≡ lineFeeds (take len d) + 1
+  by-run-lines n f =
+      let k : lineFeeds (drop (i + r) (take len d)) ≡ lineFeeds (drop i (take len d)) = ap lineFeeds (sym after) ∙ feeds-run (drop i (take len d)) in
+      omega arith
+
+  pub by-run-width : (from best : ℕ) → from ≤ i → widthFrom (i - from) best (drop i (take len d)) ≡ width (take len d) → widthFrom (i + r - from) best (drop (i + r) (take len d)) ≡ width (take len d)
+  by-run-width from best g f =
+      let v = drop i (take len d) in
+      let k : i + r - from ≡ i - from + r = omega arith in
+      rw k (ap (λ (j : ℕ). widthFrom (i - from + j) best (drop (i + r) (take len d))) run-is ∙ ap (widthFrom (i - from + before 10 v) best) (sym after) ∙ width-run v (i - from) best ∙ f)
+
+-- ---- a byte
 
 module _ (d : List ℕ) (len i : ℕ) (h : len ≤ length d) where
   module _ (c : i < len) where
@@ -53,6 +98,13 @@ module _ (d : List ℕ) (len i : ℕ) (h : len ≤ length d) where
         let k : widthFrom at best (drop i (take len d)) ≡ widthFrom (suc at) best (drop (i + 1) (take len d)) =
         ap (widthFrom at best) (take-next d len i h c) ∙ width-by at best (getD d i 0) (drop (i + 1) (take len d)) false (ne-eqb (getD d i 0) 10 z) in
         rw o (sym k ∙ e)
+
+module _ (d : List ℕ) (len i r : ℕ) (h : len ≤ length d) (c : i < len) (z : getD d i 0 ≡ 10 → ⊥) (e : r ≡ before 10 (part d (i + 1) (len - (i + 1)))) where
+  pub by-long-lines : (n : ℕ) → n + lineFeeds (drop i (take len d)) ≡ lineFeeds (take len d) + 1 → n + lineFeeds (drop (i + 1 + r) (take len d)) ≡ lineFeeds (take len d) + 1
+  by-long-lines n f = by-run-lines d len (i + 1) r e n (by-line-on d len i h c n z f)
+
+  pub by-long-width : (from best : ℕ) → from ≤ i → widthFrom (i - from) best (drop i (take len d)) ≡ width (take len d) → widthFrom (i + 1 + r - from) best (drop (i + 1 + r) (take len d)) ≡ width (take len d)
+  by-long-width from best g f = by-run-width d len (i + 1) r e from best (omega arith) (by-width-on d len i h c from best g z f)
 
 size : ℕ → ℕ → Size
 size n m = record { lines = n; width = m }

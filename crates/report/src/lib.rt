@@ -1,4 +1,5 @@
 // The end of a layout: the text is trimmed at both ends, and its lines and width are counted.
+use ascii::find;
 use ascii::is_white;
 use text::Text;
 use text::fill;
@@ -92,6 +93,11 @@ pub fn lines_width(text: &[u8], len: usize) -> Size
     while i < len {
         if text[i] != 10 {
             i += 1;
+            // A long line is passed many bytes at a time; for a short one that would be dear.
+            if i - from != 16 {
+                continue;
+            }
+            i += find(text, i, len - i, 10);
             continue;
         }
         lines += 1;

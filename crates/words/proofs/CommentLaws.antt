@@ -5,17 +5,18 @@ use mathlib.Core.List.{List, [], _∷_, _++_, append-assoc}
 use Prim.Native.Nat.{ℕ, zero, suc, _+_, _-_, _≤_, _<_}
 use native.Mathlib.Omega.{arith}
 use lib.Dec.{eqb}
-use lib.ListN.{length, drop, getD}
-use lib.Seq.{drop-drop}
-use borrow.Author.Tests.{eq-eqb, ne-eqb, eqb-true}
+use lib.ListN.{length, take, drop, getD, length-drop}
+use lib.Seq.{drop-drop, take-take}
+use borrow.Author.Tests.{eqb-true}
 use Rattle.rules.specs.Text.{Text, isBlank, trimStart, leadLine, indentComment, append}
-use Rattle.ascii.specs.Part.{part}
-use Rattle.ascii.proofs.PartLaws.{part-next, part-end, part-drop}
+use Rattle.ascii.specs.Part.{part, before}
+use Rattle.ascii.proofs.PartLaws.{length-part, part-next, part-end, part-drop}
+use Rattle.ascii.proofs.FindLaws.{before-next}
 use Rattle.text.specs.declared.Text.{Text as Code}
 use Rattle.text.specs.Held.{textOf, Held, Laid}
 use Rattle.text.proofs.HeldLaws.{laid, appended, append-none}
 use Rattle.text.proofs.WorkLaws.{Working, work-goes, work-ends}
-use Rattle.words.specs.Words.{blanks, leadAfter, leadOf}
+use Rattle.words.specs.Words.{blanks, leadOf}
 
 -- ---- the blanks at the start
 
@@ -36,12 +37,6 @@ module _ (s : List ℕ) (start n i : ℕ) (h : start + n ≤ length s) (e : i + 
       let k : blanks (drop i (part s start n)) ≡ 0 = rw (part-end s start n i h c) in
       omega arith
 
-pub by-no-line : (b : ℕ) (v : List ℕ) → (b ≡ 10 → ⊥) → 0 ≡ leadAfter b v
-by-no-line b v z = rw (ne-eqb b 10 z)
-
-pub by-line : (b r : ℕ) (v : List ℕ) → b ≡ 10 → r ≡ blanks v → r ≡ leadAfter b v
-by-line b r v z e = rw (eq-eqb b 10 z) e
-
 -- ---- what stands in their place
 
 pub by-no-lead : (t : Code) (d ind : List ℕ) (lead : ℕ) → Held t d → lead ≡ 0 → Laid (length d) (append (length d) (leadOf lead ind) (textOf t d)) (record { len = t .len; fault = t .fault }) d
@@ -57,7 +52,11 @@ pub by-lead : {cap : ℕ} {t u : Code} {d r : List ℕ} (w : Text) (ind : List �
     → Laid (length d) (append (length d) (32 ∷ []) (textOf t d)) u r → Laid cap (append cap (leadOf lead ind) w) u r
 by-lead w ind lead z p q = rw (lead-more lead ind z) (appended ind (32 ∷ []) w p q)
 
--- ---- the rule, a byte and what follows it at a time
+pub by-feed : {cap : ℕ} {t u : Code} {d r : List ℕ} (w : Text) (ind : List ℕ) (lead : ℕ) → Laid cap (append cap (10 ∷ []) w) t d
+    → Laid (length d) (append (length d) (leadOf lead ind) (textOf t d)) u r → Laid cap (append cap (10 ∷ leadOf lead ind) w) u r
+by-feed w ind lead p q = appended (10 ∷ []) (leadOf lead ind) w p q
+
+-- ---- the rule, a line at a time
 
 module _ (ind : List ℕ) where
   blank-no-line : (y : ℕ) → isBlank y ≡ true → eqb y 10 ≡ false
@@ -91,29 +90,59 @@ module _ (ind : List ℕ) where
       go true e = ap (leadLine ind) (comment-blank y ys e) ∙ rw (e, skips ys) (sym (append-assoc ind (32 ∷ []) _))
       go false e = rw e
 
-  comment-step : (x : ℕ) (xs : List ℕ) → indentComment ind (x ∷ xs) ≡ x ∷ (leadOf (leadAfter x xs) ind ++ indentComment ind (drop (leadAfter x xs) xs))
-  unfolding leadOf
-  comment-step x xs = go (eqb x 10) refl
+  -- a line as it is, and after its feed what stands for the blanks
+  comment-run : (v : List ℕ) → indentComment ind v ≡ take (before 10 v) v ++ indentComment ind (drop (before 10 v) v)
+  comment-run [] = refl
+  comment-run (x ∷ xs) = go (eqb x 10) refl (comment-run xs)
     where
-      go : (b : Bool) → eqb x 10 ≡ b → indentComment ind (x ∷ xs) ≡ x ∷ (leadOf (leadAfter x xs) ind ++ indentComment ind (drop (leadAfter x xs) xs))
-      go true e = rw e (ap (λ (l : List ℕ). x ∷ l) (leads xs))
-      go false e = rw e
+      go : (b : Bool) → eqb x 10 ≡ b → indentComment ind xs ≡ take (before 10 xs) xs ++ indentComment ind (drop (before 10 xs) xs)
+          → indentComment ind (x ∷ xs) ≡ take (before 10 (x ∷ xs)) (x ∷ xs) ++ indentComment ind (drop (before 10 (x ∷ xs)) (x ∷ xs))
+      go true e f = let k : before 10 (x ∷ xs) ≡ 0 = rw e in rw k
+      go false e f = rw e (ap (λ (l : List ℕ). x ∷ l) f)
+
+  comment-feed : (v : List ℕ) → indentComment ind (10 ∷ v) ≡ (10 ∷ leadOf (blanks v) ind) ++ indentComment ind (drop (blanks v) v)
+  comment-feed v = ap (λ (l : List ℕ). 10 ∷ l) (leads v)
 
 -- ---- the loop
 
 module _ (cap : ℕ) (w : Text) (ind s : List ℕ) (start n i : ℕ) (t : Code) (d : List ℕ)
     (l : Working cap w (indentComment ind (drop i (part s start n))) t d) (h : start + n ≤ length s) where
-  pub by-comment : (lead : ℕ) (t₁ u : Code) (d₁ r : List ℕ) → i < n → lead ≡ leadAfter (getD s (start + i) 0) (part s (start + (i + 1)) (n - (i + 1)))
-      → Laid (length d) (append (length d) (getD s (start + i) 0 ∷ []) (textOf t d)) t₁ d₁ → Laid (length d₁) (append (length d₁) (leadOf lead ind) (textOf t₁ d₁)) u r
-      → Working cap w (indentComment ind (drop (i + 1 + lead) (part s start n))) u r
-  by-comment lead t₁ u d₁ r c e p q =
-      let x : ℕ = getD s (start + i) 0 in
-      let v : List ℕ = drop (i + 1) (part s start n) in
-      let f : lead ≡ leadAfter x v = e ∙ ap (leadAfter x) (sym (part-drop s start n (i + 1))) in
-      let g : drop lead v ≡ drop (i + 1 + lead) (part s start n) = drop-drop lead (i + 1) (part s start n) in
-      let a : indentComment ind (drop i (part s start n)) ≡ (x ∷ leadOf lead ind) ++ indentComment ind (drop (i + 1 + lead) (part s start n)) =
-      ap (indentComment ind) (part-next s start n i h c) ∙ comment-step ind x v ∙ rw (← f, g) in
-      work-goes l (x ∷ leadOf lead ind) _ a (appended (x ∷ []) (leadOf lead ind) (textOf t d) p q)
+  module _ (r : ℕ) (t₁ : Code) (d₁ : List ℕ) (c : i < n) (e : r ≡ before 10 (part s (start + i) (n - i)))
+      (p : Laid (length d) (append (length d) (part s (start + i) r) (textOf t d)) t₁ d₁) where
+    run-is : r ≡ before 10 (drop i (part s start n))
+    run-is = e ∙ ap (before 10) (sym (part-drop s start n i))
+
+    -- after the line
+    line : r ≤ n - i → Working cap w (indentComment ind (drop (i + r) (part s start n))) t₁ d₁
+    line g =
+        let v = drop i (part s start n) in
+        let a : part s (start + i) r ≡ take (before 10 v) v =
+        sym (ap (λ (k : ℕ). take k v) (sym run-is) ∙ ap (take r) (part-drop s start n i) ∙ take-take r (n - i) (drop (start + i) s) g) in
+        let b : indentComment ind v ≡ part s (start + i) r ++ indentComment ind (drop (i + r) (part s start n)) =
+        comment-run ind v ∙ ap (λ (x : List ℕ). x ++ indentComment ind (drop (before 10 v) v)) (sym a)
+        ∙ ap (λ (k : ℕ). part s (start + i) r ++ indentComment ind (drop k v)) (sym run-is) ∙ ap (λ (x : List ℕ). part s (start + i) r ++ indentComment ind x) (drop-drop r i (part s start n)) in
+        work-goes l (part s (start + i) r) _ b p
+
+    pub by-last-line : r ≤ n - i → i + r ≡ n → Laid cap w t₁ d₁
+    by-last-line g z = work-ends (line g) (rw (part-end s start n (i + r) h (omega arith)))
+
+    pub by-comment : (lead : ℕ) (u : Code) (k : List ℕ) → r ≤ n - i → (i + r ≡ n → ⊥) → lead ≡ blanks (part s (start + (i + r + 1)) (n - (i + r + 1)))
+        → Laid (length d₁) (append (length d₁) (10 ∷ leadOf lead ind) (textOf t₁ d₁)) u k → Working cap w (indentComment ind (drop (i + r + 1 + lead) (part s start n))) u k
+    by-comment lead u k g z f q =
+        let v = drop i (part s start n) in
+        let x = drop (i + r + 1) (part s start n) in
+        let m = length-part s start n h in
+        let y : length v ≡ n - i = length-drop i (part s start n) ∙ ap (λ (j : ℕ). j - i) m in
+        let lt : r < length v = omega arith in
+        let j : i + (r + 1) ≡ i + r + 1 = omega arith in
+        let feed : drop (i + r) (part s start n) ≡ 10 ∷ x =
+        sym (drop-drop r i (part s start n)) ∙ ap (λ (a : ℕ). drop a v) run-is ∙ before-next 10 v (rw run-is at lt) ∙ ap (λ (a : ℕ). 10 ∷ drop (a + 1) v) (sym run-is)
+        ∙ ap (λ (a : List ℕ). 10 ∷ a) (drop-drop (r + 1) i (part s start n) ∙ ap (λ (a : ℕ). drop a (part s start n)) j) in
+        let b : lead ≡ blanks x = f ∙ ap blanks (sym (part-drop s start n (i + r + 1))) in
+        let a : indentComment ind (drop (i + r) (part s start n)) ≡ (10 ∷ leadOf lead ind) ++ indentComment ind (drop (i + r + 1 + lead) (part s start n)) =
+        ap (indentComment ind) feed ∙ comment-feed ind x ∙ ap (λ (a : ℕ). (10 ∷ leadOf a ind) ++ indentComment ind (drop a x)) (sym b)
+        ∙ ap (λ (a : List ℕ). (10 ∷ leadOf lead ind) ++ indentComment ind a) (drop-drop lead (i + r + 1) (part s start n)) in
+        work-goes (line g) (10 ∷ leadOf lead ind) _ a q
 
   pub by-comment-end : n ≤ i → Laid cap w t d
   by-comment-end c = work-ends l (rw (part-end s start n i h c))

@@ -2,7 +2,6 @@
 use mathlib.Core.List.{List, [], _∷_, _++_}
 use mathlib.Core.Bool.{Bool, true, false}
 use Prim.Native.Nat.{ℕ, zero, suc}
-use lib.Dec.{eqb}
 use Rattle.rules.specs.Base.{if_then_else_}
 use Rattle.rules.specs.Text.{isBlank}
 
@@ -15,10 +14,6 @@ spaced false b = b ∷ []
 abbrev pub blanks : List ℕ → ℕ
 blanks [] = 0
 blanks (x ∷ xs) = if isBlank x then suc (blanks xs) else 0
-
--- how many to leave out after the byte b: those at the start of a line
-abbrev pub leadAfter : ℕ → List ℕ → ℕ
-leadAfter b v = if eqb b 10 then blanks v else 0
 
 -- what stands in their place
 unfoldable pub leadOf : ℕ → List ℕ → List ℕ

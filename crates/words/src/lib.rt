@@ -1,4 +1,5 @@
 // Words as the text has them: in a case, with white joined to one blank, and a block comment with the present indent.
+use ascii::find;
 use ascii::in_case;
 use ascii::is_blank;
 use ascii::is_white;
@@ -7,15 +8,17 @@ use rules::Indent;
 use text::Text;
 use text::append_byte;
 use text::append_indent;
+use text::append_part;
 use text::refuse;
 ghost use mathlib.Core.Path.{_≡_};
+ghost use mathlib.Core.List.{_∷_};
 ghost use Prim.Native.Nat.{_+_, _≤_};
 ghost use lib.ListN.{length};
 ghost use Rattle.rules.specs.Text.{inCase, equalizeWhitespace, indentComment, indentOf, append};
 ghost use Rattle.ascii.specs.Part.{part};
 ghost use Rattle.text.specs.Put.{put};
 ghost use Rattle.text.specs.Held.{textOf, Held, Laid};
-ghost use Rattle.words.specs.Words.{spaced, blanks, leadAfter, leadOf};
+ghost use Rattle.words.specs.Words.{spaced, blanks, leadOf};
 
 // ---- a word in a case
 
@@ -110,16 +113,6 @@ fn count_blanks(src: &[u8], start: usize, n: usize) -> usize
     i
 }
 
-fn lead_after(b: u8, src: &[u8], start: usize, n: usize) -> usize
-    requires { ⌜ start + n ≤ length (now src) ⌝ }
-    ensures { λ r. ⌜ (r ≡ leadAfter b (part (now (src .entry)) start n)) × (r ≤ n) ⌝ }
-{
-    if b != 10 {
-        return 0;
-    }
-    count_blanks(src, start, n)
-}
-
 fn append_lead(text: &mut [u8], t: Text, lead: usize, indent: Indent, level: usize) -> Text
     requires { ⌜ Held t (now text) ⌝ }
     requires { ⌜ level ≤ 128 ⌝ }
@@ -133,6 +126,15 @@ fn append_lead(text: &mut [u8], t: Text, lead: usize, indent: Indent, level: usi
     }
     let indented = append_indent(text, t, indent, level);
     append_byte(text, indented, 32)
+}
+
+fn append_feed(text: &mut [u8], t: Text, lead: usize, indent: Indent, level: usize) -> Text
+    requires { ⌜ Held t (now text) ⌝ }
+    requires { ⌜ level ≤ 128 ⌝ }
+    ensures { λ r. ⌜ Laid (length (now (text .entry))) (append (length (now (text .entry))) (10 ∷ leadOf lead (indentOf indent level)) (textOf t (now (text .entry)))) r (now (text .exit)) ⌝ }
+{
+    let fed = append_byte(text, t, 10);
+    append_lead(text, fed, lead, indent, level)
 }
 
 pub fn append_comment(
@@ -152,12 +154,17 @@ pub fn append_comment(
     let mut done = t;
     let mut i = 0;
     while i < n {
-        let b = src[start + i];
-        let next = i + 1;
-        let lead = lead_after(b, src, start + next, n - next);
-        let one = append_byte(text, done, b);
-        done = append_lead(text, one, lead, indent, level);
-        i = next + lead;
+        // A line, then its feed and the blanks after it.
+        let run = find(src, start + i, n - i, 10);
+        let line = append_part(text, done, src, start + i, run);
+        i += run;
+        if i == n {
+            return line;
+        }
+        i += 1;
+        let lead = count_blanks(src, start + i, n - i);
+        done = append_feed(text, line, lead, indent, level);
+        i += lead;
     }
     done
 }

@@ -1,7 +1,10 @@
 use borrow.Author.Needs.{needs}
-use Rattle.places.proofs.SameLaws.{by-parts}
 use Rattle.places.proofs.same_places.Statement.{statement}
 use Rattle.places.proofs.same_places.Tie as tie
+use Rattle.places.proofs.SameLaws.{by-parts, by-one-start}
+
+returns : tie.Need-returns
+returns c = search (needs, by-one-start)
 
 to-usize-requires : tie.Need-to-usize-requires
 to-usize-requires c κs = search needs
@@ -24,13 +27,14 @@ to-usize-requires-4 c κs = search needs
 same-bytes-requires : tie.Need-same-bytes-requires
 same-bytes-requires c κs = search needs
 
-returns : tie.Need-returns
-returns c = search (needs, by-parts)
+returns-2 : tie.Need-returns-2
+returns-2 c = search (needs, by-parts)
 
 pub same-places-spec : {M : Type 1} → statement M
 same-places-spec =
     tie.close
     (tie.spec
+    returns
     to-usize-requires
     add-start
     to-usize-requires-2
@@ -38,4 +42,4 @@ same-places-spec =
     add-from
     to-usize-requires-4
     same-bytes-requires
-    returns)
+    returns-2)

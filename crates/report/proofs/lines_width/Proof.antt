@@ -5,7 +5,7 @@ use mathlib.Core.Path.{_≡_}
 use Prim.Native.Nat.{_+_, _-_, _≤_}
 use lib.ListN.{take, drop}
 use Rattle.rules.specs.Text.{lineFeeds, widthFrom, width}
-use Rattle.report.proofs.SizeLaws.{by-line-fed, by-line-on, by-width-fed, by-width-on, by-size, by-no-size}
+use Rattle.report.proofs.SizeLaws.{by-line-fed, by-line-on, by-width-fed, by-width-on, by-long-lines, by-long-width, by-size, by-no-size}
 
 abbrev Inv-loop : tie.InvT-loop
 Inv-loop text len lines₀ best₀ from₀ i₀ lines best from i =
@@ -27,11 +27,29 @@ shared-slice-read-if2 c = search needs
 add-i : tie.Need-add-i Inv-loop μ-loop
 add-i c = search needs
 
+sub-if3 : tie.Need-sub-if3 Inv-loop μ-loop
+sub-if3 c = search needs
+
 loop-less : tie.Need-loop-less Inv-loop μ-loop
 loop-less c = search needs
 
 loop-again : tie.Need-loop-again Inv-loop μ-loop
 loop-again c = search (needs, by-line-on, by-width-on)
+
+sub-find : tie.Need-sub-find Inv-loop μ-loop
+sub-find c = search needs
+
+find-requires : tie.Need-find-requires Inv-loop μ-loop
+find-requires c κs = search needs
+
+add-i-2 : tie.Need-add-i-2 Inv-loop μ-loop
+add-i-2 c = search needs
+
+loop-less-2 : tie.Need-loop-less-2 Inv-loop μ-loop
+loop-less-2 c = search needs
+
+loop-again-2 : tie.Need-loop-again-2 Inv-loop μ-loop
+loop-again-2 c = search (needs, by-long-lines, by-long-width)
 
 add-lines : tie.Need-add-lines Inv-loop μ-loop
 add-lines c = search needs
@@ -42,14 +60,14 @@ sub-larger c = search needs
 larger-requires : tie.Need-larger-requires Inv-loop μ-loop
 larger-requires c κs = search needs
 
-add-i-2 : tie.Need-add-i-2 Inv-loop μ-loop
-add-i-2 c = search needs
+add-i-3 : tie.Need-add-i-3 Inv-loop μ-loop
+add-i-3 c = search needs
 
-loop-less-2 : tie.Need-loop-less-2 Inv-loop μ-loop
-loop-less-2 c = search needs
+loop-less-3 : tie.Need-loop-less-3 Inv-loop μ-loop
+loop-less-3 c = search needs
 
-loop-again-2 : tie.Need-loop-again-2 Inv-loop μ-loop
-loop-again-2 c = search (needs, by-line-fed, by-width-fed)
+loop-again-3 : tie.Need-loop-again-3 Inv-loop μ-loop
+loop-again-3 c = search (needs, by-line-fed, by-width-fed)
 
 sub-larger-2 : tie.Need-sub-larger-2 Inv-loop μ-loop
 sub-larger-2 c = search needs
@@ -70,14 +88,20 @@ lines-width-spec =
     loop-holds
     shared-slice-read-if2
     add-i
+    sub-if3
     loop-less
     loop-again
-    add-lines
-    sub-larger
-    larger-requires
+    sub-find
+    find-requires
     add-i-2
     loop-less-2
     loop-again-2
+    add-lines
+    sub-larger
+    larger-requires
+    add-i-3
+    loop-less-3
+    loop-again-3
     sub-larger-2
     larger-requires-2
     returns-2)

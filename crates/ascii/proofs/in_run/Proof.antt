@@ -1,0 +1,61 @@
+use Prim.Native.Nat.{_-_, _≤_}
+use mathlib.Core.Bool.{not}
+use mathlib.Core.Path.{_≡_, refl}
+use native.Mathlib.Omega.{arith}
+use lib.Dec.{eqb}
+use borrow.Author.Needs.{needs}
+use Rattle.ascii.specs.Part.{part, has}
+use Rattle.ascii.proofs.FindLaws.{found-more, found-all}
+use Rattle.ascii.proofs.in_run.Statement.{statement}
+use Rattle.ascii.proofs.in_run.Tie as tie
+
+abbrev Inv-loop : tie.InvT-loop
+Inv-loop src start n b all₀ i₀ all i = (i ≤ n) × (eqb all 0 ≡ not (has b (part src start i)))
+
+abbrev μ-loop : tie.MeasureT-loop
+μ-loop src start n b all₀ i₀ all i = n - i
+
+loop-holds : tie.Need-loop-holds Inv-loop μ-loop
+loop-holds c = (omega arith, refl)
+
+add-equal : tie.Need-add-equal Inv-loop μ-loop
+add-equal c = search needs
+
+shared-slice-read-equal : tie.Need-shared-slice-read-equal Inv-loop μ-loop
+shared-slice-read-equal c = search needs
+
+equal-requires : tie.Need-equal-requires Inv-loop μ-loop
+equal-requires c κs = search needs
+
+add-i : tie.Need-add-i Inv-loop μ-loop
+add-i c = search needs
+
+loop-less : tie.Need-loop-less Inv-loop μ-loop
+loop-less c = search needs
+
+loop-again : tie.Need-loop-again Inv-loop μ-loop
+loop-again c =
+    let l = c .before .before .before .loop in
+    let a = c .before .before .before .before .before .args in
+    (search needs, found-more (a .src .now) (a .start) (a .b) (l .i) (l .all) _ (search needs) (l .inv .1) (c .equal .ensures))
+
+returns : tie.Need-returns Inv-loop μ-loop
+returns c =
+    let l = c .before .loop in
+    let e : l .i ≡ c .before .before .before .args .n = omega arith in
+    found-all (l .all) _ (rw e at (l .inv .1))
+
+pub in-run-spec : {M : Type 1} → statement M
+in-run-spec =
+    tie.close
+    (tie.spec
+    Inv-loop
+    μ-loop
+    loop-holds
+    add-equal
+    shared-slice-read-equal
+    equal-requires
+    add-i
+    loop-less
+    loop-again
+    returns)
