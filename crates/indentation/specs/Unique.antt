@@ -1,15 +1,21 @@
 -- Two results that stand for the same stacks are one. Assumes nothing.
 use mathlib.Core.Path.{_≡_, refl, sym, ap, _∙_}
 use mathlib.Core.Bool.{Bool, true, false}
+use mathlib.Core.Option.{Option, none, some}
 use mathlib.Core.List.{List, [], _∷_, map}
 use Prim.Native.Nat.{ℕ, zero, suc, _≤_}
 use native.Mathlib.Omega.{arith}
 use Rattle.rules.specs.declared.SpanInfo.{SpanInfo}
-use Rattle.rules.specs.Indentation.{Indentation, PreviousTokens}
+use Rattle.rules.specs.Indentation.{Indentation, PreviousTokens, Closed}
 use Rattle.stacks.specs.Laws.{same-count, same-array}
 use Rattle.indentation.specs.declared.Previous.{Previous}
 use Rattle.indentation.specs.declared.Indentation.{Indentation as Code}
-use Rattle.indentation.specs.Of.{typeOf, wordOf, topOf, previousOf, noSpan, noPrevious, typesOf, indentationOf, Told, Stands}
+use Rattle.indentation.specs.declared.Closed.{Closed as CodeClosed}
+use Rattle.indentation.specs.declared.Word.{Word}
+use Rattle.indentation.specs.declared.Word.the-variants as word
+use Rattle.indentation.specs.declared.TopLevel.{TopLevel}
+use Rattle.indentation.specs.declared.TopLevel.the-variants as top
+use Rattle.indentation.specs.Of.{typeOf, wordOf, topOf, previousOf, noSpan, noPrevious, typesOf, indentationOf, Told, wordIn, spanIn, Stands, StandsClosed}
 
 no-way : {A : Type 0} → _≡_ {A = ℕ} 0 1 → A
 no-way e = absurd (omega arith)
@@ -85,3 +91,40 @@ stands-one w r q s t =
   where
     mk : List ℕ → ℕ → List ℕ → ℕ → List Previous → ℕ → Code
     mk k nk s ns p np = record { kinds = k; nkinds = nk; spans = s; nspans = ns; previous = p; nprevious = np }
+
+-- ---- a closed block, and what is told of the last words
+
+pub closed-one : (w : Closed ℕ) (r q : CodeClosed) → StandsClosed w r → StandsClosed w q → r ≡ q
+closed-one w r q s t =
+    let f : r .folded ≡ q .folded = s .folded ∙ sym (t .folded) in
+    let l : r .left ≡ q .left = stands-one (w .left) (r .left) (q .left) (s .left) (t .left) in
+    let z : mk (r .folded) (r .left) ≡ mk (q .folded) (q .left) = cc in
+    z
+  where
+    mk : Bool → Code → CodeClosed
+    mk f l = record { folded = f; left = l }
+
+-- back from what is told
+word-by : Option ℕ → Word
+word-by none = word.Nothing
+word-by (some n) = word.Token n
+
+word-back : (r : Word) → word-by (wordIn r) ≡ r
+unfolding word-by wordIn
+word-back (word.Token n) = refl
+word-back word.Nothing = refl
+
+pub word-one : (r q : Word) → wordIn r ≡ wordIn q → r ≡ q
+word-one r q e = sym (word-back r) ∙ ap word-by e ∙ word-back q
+
+top-by : Option SpanInfo → TopLevel
+top-by none = top.Nothing
+top-by (some sp) = top.Span sp
+
+top-back : (r : TopLevel) → top-by (spanIn r) ≡ r
+unfolding top-by spanIn
+top-back (top.Span sp) = refl
+top-back top.Nothing = refl
+
+pub top-one : (r q : TopLevel) → spanIn r ≡ spanIn q → r ≡ q
+top-one r q e = sym (top-back r) ∙ ap top-by e ∙ top-back q
