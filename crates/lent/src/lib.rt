@@ -9,6 +9,7 @@ ghost use Rattle.records.specs.Sheeted.{Sheeted};
 ghost use Rattle.params.specs.Entries.{KeyIn, shownOf};
 ghost use Rattle.lent.specs.Listed.{noParam, numbered, picked, namedIn};
 use offences::in_body;
+use params::Shown;
 use params::get;
 use places::same_places;
 use records::body_at;
@@ -31,6 +32,19 @@ pub fn get_next(sheet: &[u8], c: Counts, t: Token, counter: &mut Counter) -> Pla
     let shown = get(sheet, c, t, index);
     counter.at = shown.index;
     shown.place
+}
+
+// `params::get`, by a counter that is lent: the layout's placeholder.
+pub fn get_counted(sheet: &[u8], c: Counts, t: Token, index: u32) -> Shown
+    requires { ⌜ (Sheeted (now sheet) c) × (KeyIn (now sheet) (bodyAt c) (t .key)) × (index < 4294967295) ⌝ }
+    ensures { λ r. ⌜ r ≡ shownOf (now (sheet .entry)) c t index ⌝ }
+{
+    let mut counter = Counter { at: index };
+    let place = get_next(sheet, c, t, &mut counter);
+    Shown {
+        place,
+        index: counter.at,
+    }
 }
 
 // ---- the list
