@@ -1,7 +1,6 @@
 -- Laws of the search by name, over plain variables. Assumes nothing.
 use mathlib.Core.Path.{_≡_, refl, ap}
 use mathlib.Core.Bool.{Bool, true, false, not}
-use mathlib.Core.Option.{Option, some}
 use mathlib.Core.List.{List, [], _∷_}
 use Prim.Native.Nat.{ℕ, zero, suc, _+_, _≤_, _<_}
 use native.Mathlib.Omega.{arith}
@@ -10,14 +9,14 @@ use lib.ListN.{length, getD, drop}
 use borrow.Author.Tests.{leb-true}
 use Rattle.rules.specs.declared.Place.{Place}
 use Rattle.rules.specs.declared.Counts.{Counts}
-use Rattle.rules.specs.Base.{if_then_else_, same}
+use Rattle.rules.specs.Base.{same}
 use Rattle.rules.specs.Words.{bodyAt}
 use Rattle.rules.specs.Checks.{inBody}
 use Rattle.rules.specs.Sheet.{part}
 use Rattle.tokens.specs.Placed.{Inside}
 use Rattle.records.specs.Sheeted.{Sheeted}
 use Rattle.lent.specs.declared.Param.{Param}
-use Rattle.lent.specs.Listed.{noParam, valueOr, numbered, hasBytes, picked, namedIn}
+use Rattle.lent.specs.Listed.{noParam, numbered, equals, namedIn}
 
 -- ---- one record
 
@@ -28,22 +27,19 @@ module _ (s : List ℕ) (c : Counts) (p : Place) (b : ℕ) (at : b ≡ bodyAt c)
       let m : p .start + p .len ≤ c .bytes = leb-true _ _ t in
       let k : length s ≡ bodyAt c + c .bytes = h .long in record { inside = omega arith }
 
-  pub inside-at : Inside s (bodyAt c) p → Inside s b p
-  inside-at h = rw at h
+module _ (s : List ℕ) (c : Counts) (p n : Place) (r : Bool) (d : r ≡ inBody p (c .bytes)) where
+  pub name-outside : r ≡ false → false ≡ equals s c p n
+  unfolding equals
+  name-outside x = rw (← d, x)
 
-module _ (s : List ℕ) (c : Counts) (name : Place) (p : Param) (others : Place) (r : Bool) (d : r ≡ inBody (p .name) (c .bytes)) where
-  module _ (b : ℕ) (at : b ≡ bodyAt c) (f : Bool) (e : f ≡ same (part s b (p .name)) (part s b name)) where
-    pub pick-same : r ≡ true → f ≡ true → p .value ≡ picked s c (part s (bodyAt c) name) p others
-    unfolding picked hasBytes
-    pick-same x y = rw (← at, ← d, x, ← e, y)
+  module _ (x : r ≡ true) (t : Bool) (e : t ≡ inBody n (c .bytes)) where
+    pub sought-outside : t ≡ false → false ≡ equals s c p n
+    unfolding equals
+    sought-outside y = rw (← d, x, ← e, y)
 
-    pub pick-other : r ≡ true → f ≡ false → others ≡ picked s c (part s (bodyAt c) name) p others
-    unfolding picked hasBytes
-    pick-other x y = rw (← at, ← d, x, ← e, y)
-
-  pub pick-outside : r ≡ false → others ≡ picked s c (part s (bodyAt c) name) p others
-  unfolding picked hasBytes
-  pick-outside x = rw (← d, x)
+    pub both-inside : t ≡ true → (b : ℕ) → b ≡ bodyAt c → (f : Bool) → f ≡ same (part s b p) (part s b n) → f ≡ equals s c p n
+    unfolding equals
+    both-inside y b at f g = rw (← d, x, ← e, y, ← at, g)
 
 -- ---- by number
 
@@ -69,19 +65,24 @@ pub fails : (t : Bool) → T (not t) → t ≡ false
 fails true f = absurd f
 fails false _ = refl
 
-module _ (s : List ℕ) (c : Counts) (n : List ℕ) (own : Place) where
-  -- a record, and then the others: what one search gives
-  pick-step : (b : Bool) (p : Param) (o : Option Param) → (if b then p .value else valueOr own o) ≡ valueOr own (if b then some p else o)
-  pick-step true p o = refl
-  pick-step false p o = refl
+module _ (s : List ℕ) (c : Counts) (n own : Place) where
+  -- what the records from i on give
+  abbrev pub foundFrom : List Param → ℕ → Place
+  foundFrom ps i = namedIn s c n (drop i ps) own
 
-  pub drop-step : (ps : List Param) (i : ℕ) → i < length ps → picked s c n (getD ps i noParam) (namedIn s c n (drop (suc i) ps) own) ≡ namedIn s c n (drop i ps) own
-  unfolding namedIn picked
-  drop-step [] i l = absurd (omega arith)
-  drop-step (p ∷ ps) zero l = pick-step (hasBytes s c n (p .name)) p _
-  drop-step (p ∷ ps) (suc i) l = drop-step ps i (omega arith)
-
-  pub drop-all : (ps : List Param) → namedIn s c n (drop (length ps) ps) own ≡ own
+  pub found-here : (ps : List Param) (i : ℕ) → i < length ps → equals s c (getD ps i noParam .name) n ≡ true → getD ps i noParam .value ≡ foundFrom ps i
   unfolding namedIn
-  drop-all [] = refl
-  drop-all (p ∷ ps) = drop-all ps
+  found-here [] i l e = absurd (omega arith)
+  found-here (p ∷ ps) zero l e = rw e
+  found-here (p ∷ ps) (suc i) l e = found-here ps i (omega arith) e
+
+  pub found-later : (ps : List Param) (i : ℕ) → i < length ps → equals s c (getD ps i noParam .name) n ≡ false → foundFrom ps (suc i) ≡ foundFrom ps i
+  unfolding namedIn
+  found-later [] i l e = absurd (omega arith)
+  found-later (p ∷ ps) zero l e = rw e
+  found-later (p ∷ ps) (suc i) l e = found-later ps i (omega arith) e
+
+  pub found-none : (ps : List Param) → foundFrom ps (length ps) ≡ own
+  unfolding namedIn
+  found-none [] = refl
+  found-none (p ∷ ps) = found-none ps

@@ -1,14 +1,12 @@
 // params.rs, in two forms that are lent: the counter behind `&mut`, and the parameter list as a slice of records.
 ghost use mathlib.Core.Path.{_≡_};
 ghost use Prim.Native.Nat.{_<_};
-ghost use lib.ListN.{length, getD};
 ghost use Rattle.rules.specs.Words.{bodyAt};
-ghost use Rattle.rules.specs.Sheet.{part};
-ghost use Rattle.tokens.specs.Placed.{Inside};
 ghost use Rattle.records.specs.Sheeted.{Sheeted};
 ghost use Rattle.params.specs.Entries.{KeyIn, shownOf};
-ghost use Rattle.lent.specs.Listed.{noParam, numbered, picked, namedIn};
+ghost use Rattle.lent.specs.Listed.{numbered, equals, namedIn};
 use offences::in_body;
+use params::Shown;
 use params::get;
 use places::same_places;
 use records::body_at;
@@ -33,6 +31,19 @@ pub fn get_next(sheet: &[u8], c: Counts, t: Token, counter: &mut Counter) -> Pla
     shown.place
 }
 
+// `params::get`, by a counter that is lent: the layout's placeholder.
+pub fn get_counted(sheet: &[u8], c: Counts, t: Token, index: u32) -> Shown
+    requires { ⌜ (Sheeted (now sheet) c) × (KeyIn (now sheet) (bodyAt c) (t .key)) × (index < 4294967295) ⌝ }
+    ensures { λ r. ⌜ r ≡ shownOf (now (sheet .entry)) c t index ⌝ }
+{
+    let mut counter = Counter { at: index };
+    let place = get_next(sheet, c, t, &mut counter);
+    Shown {
+        place,
+        index: counter.at,
+    }
+}
+
 // ---- the list
 
 // A name's place and a value's.
@@ -51,39 +62,32 @@ pub fn by_number(ps: &[Param], n: usize, own: Place) -> Place
     own
 }
 
-// One record's value where its name equals, else what the others give.
-fn pick(sheet: &[u8], c: Counts, p: Param, name: Place, others: Place) -> Place
-    requires { ⌜ (Sheeted (now sheet) c) × (Inside (now sheet) (bodyAt c) name) ⌝ }
-    ensures { λ r. ⌜ r ≡ picked (now (sheet .entry)) c (part (now (sheet .entry)) (bodyAt c) name) p others ⌝ }
+// The record's name equals the searched one. A place outside the bodies equals no name.
+fn is_named(sheet: &[u8], c: Counts, p: Param, name: Place) -> bool
+    requires { ⌜ Sheeted (now sheet) c ⌝ }
+    ensures { λ r. ⌜ r ≡ equals (now (sheet .entry)) c (p .name) name ⌝ }
 {
     let at = p.name;
     if in_body(at, c.bytes) {
-        if same_places(sheet, body_at(c), at, name) {
-            return p.value;
+        if in_body(name, c.bytes) {
+            return same_places(sheet, body_at(c), at, name);
         }
     }
-    others
-}
-
-// The same of record i.
-fn pick_at(sheet: &[u8], c: Counts, ps: &[Param], i: usize, name: Place, others: Place) -> Place
-    requires { ⌜ (Sheeted (now sheet) c) × (Inside (now sheet) (bodyAt c) name) × (i < length (now ps)) ⌝ }
-    ensures { λ r. ⌜ r ≡ picked (now (sheet .entry)) c (part (now (sheet .entry)) (bodyAt c) name) (getD (now (ps .entry)) i noParam) others ⌝ }
-{
-    let p = ps[i];
-    pick(sheet, c, p, name, others)
+    false
 }
 
 // The value of the first record whose name equals, or the caller's place.
 pub fn by_name(sheet: &[u8], c: Counts, ps: &[Param], name: Place, own: Place) -> Place
-    requires { ⌜ (Sheeted (now sheet) c) × (Inside (now sheet) (bodyAt c) name) ⌝ }
-    ensures { λ r. ⌜ r ≡ namedIn (now (sheet .entry)) c (part (now (sheet .entry)) (bodyAt c) name) (now (ps .entry)) own ⌝ }
+    requires { ⌜ Sheeted (now sheet) c ⌝ }
+    ensures { λ r. ⌜ r ≡ namedIn (now (sheet .entry)) c name (now (ps .entry)) own ⌝ }
 {
-    let mut found = own;
-    let mut i = ps.len();
-    while 0 < i {
-        found = pick_at(sheet, c, ps, i - 1, name, found);
-        i = i - 1;
+    let mut i = 0;
+    while i < ps.len() {
+        let p = ps[i];
+        if is_named(sheet, c, p, name) {
+            return p.value;
+        }
+        i = i + 1;
     }
-    found
+    own
 }

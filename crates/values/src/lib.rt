@@ -177,7 +177,7 @@ pub fn format_placeholder(query: &mut [u8], s: State, sheet: &[u8], x: Context, 
 {
     let token = token_at(sheet, i);
     let c = x.counts;
-    let shown = params::get(sheet, c, token, s.index);
+    let shown = lent::get_counted(sheet, c, token, s.index);
     let p = shown.place;
     let v = value_in(x.base, p);
     let five = params::offends(sheet, token);

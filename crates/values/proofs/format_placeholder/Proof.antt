@@ -7,8 +7,8 @@ use Rattle.values.proofs.format_placeholder.Tie as tie
 token-at-requires : tie.Need-token-at-requires
 token-at-requires c κs = search needs
 
-get-requires : tie.Need-get-requires
-get-requires c κs = search (needs, key-known, index-small)
+get-counted-requires : tie.Need-get-counted-requires
+get-counted-requires c κs = search (needs, key-known, index-small)
 
 value-in-requires : tie.Need-value-in-requires
 value-in-requires c κs = search (needs, start-small)
@@ -28,7 +28,7 @@ same-length c = search needs
 returns : tie.Need-returns
 returns c =
     let start = c .before .before .before .before .before .before .before .before .before .before .before .before .before .before in
-    by-placeholder (now (start .args .sheet)) (start .args .x) (start .args .i) (start .args .s) _ (start .pre) _ (c .before .before .before .before .before .before .before .before .before .before .before .token-at .ensures) _ (c .before .before .before .before .before .before .before .before .before .get .ensures) _ (c .before .before .before .before .before .before .before .value-in .ensures) _ _ _ _
+    by-placeholder (now (start .args .sheet)) (start .args .x) (start .args .i) (start .args .s) _ (start .pre) _ (c .before .before .before .before .before .before .before .before .before .before .before .token-at .ensures) _ (c .before .before .before .before .before .before .before .before .before .get-counted .ensures) _ (c .before .before .before .before .before .before .before .value-in .ensures) _ _ _ _
     (c .before .before .before .before .before .before .offends .ensures) (c .before .before .before .format-placeholder .ensures) (c .with-index .ensures)
 
 pub format-placeholder-spec : {M : Type 1} → statement M
@@ -36,7 +36,7 @@ format-placeholder-spec =
     tie.close
     (tie.spec
     token-at-requires
-    get-requires
+    get-counted-requires
     value-in-requires
     offends-requires
     format-placeholder-requires
