@@ -44,7 +44,6 @@ use denote.Triple.Walked.{says, needs, Stays, stay-ref, stay-dropped, walkOf, Al
 use denote.Exit.{yes}
 use Rattle.rules.specs.declared.Counts.{Counts}
 use Rattle.rules.specs.declared.Token.{Token}
-use Rattle.rules.specs.declared.Place.{Place}
 use Rattle.rules.specs.Words.{bodyAt}
 use Rattle.rules.proofs.Counts as C
 use Rattle.rules.proofs.Counts.Laws as C′
