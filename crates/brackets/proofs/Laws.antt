@@ -36,15 +36,6 @@ use Rattle.state.specs.Of.{valueIn, wordOf, stateOf, Known, Ready, envIn, hereI
 use Rattle.state.proofs.Laws.{value-is}
 use Rattle.brackets.specs.Brackets.{caseIn, bracketIn}
 
--- ---- the sheet
-
-module _ (s : List ℕ) (x : Context) (i : ℕ) (p : Place) (known : Known s x) (e : p ≡ tokenAt s i .value) where
-  pub value-in : i < x .counts .tokens → Inside s (bodyAt (x .counts)) p
-  value-in here = rw e (known .sheeted .tokens .within i here .value-in)
-
-  pub by-case : (k : Case) → k ≡ caseOf s (x .counts) (x .options .casing) (part s (bodyAt (x .counts)) p) → k ≡ caseIn s x i
-  by-case k h = h ∙ rw (e, known .base)
-
 -- the bracket in its case, as the code says it and as the rule does
 pub said : (s : List ℕ) (x : Context) (i : ℕ) (v : Value) (k : Case) → v ≡ valueIn s x i → k ≡ caseIn s x i → inCase k (bytes s (v .start) (v .len)) ≡ bracketIn s x i
 said s x i v k e h = rw (value-is s x i v e, h)

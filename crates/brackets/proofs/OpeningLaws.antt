@@ -13,13 +13,13 @@ use Rattle.rules.specs.declared.Case.{Case}
 use Rattle.rules.specs.declared.FormatOptions.{FormatOptions}
 use Rattle.rules.specs.declared.SpanInfo.{SpanInfo}
 use Rattle.rules.specs.declared.TokenKind.the-variants.{ReservedTopLevel}
-use Rattle.rules.specs.Base.{holds, isSome}
+use Rattle.rules.specs.Base.{holds, isSome, full}
 use Rattle.rules.specs.Bytes.{bytes as text}
 use Rattle.rules.specs.Sheet.{envOf}
 use Rattle.rules.specs.Text.{Text, inCase, isLower}
 use Rattle.rules.specs.State.{State}
 use Rattle.rules.specs.Indentation.{Indentation, indentLevel, increaseBlockLevel, previousTopLevelReserved}
-use Rattle.rules.specs.InlineBlock.{isActive, isInlineBlock, beginsInline, beginIfPossible, full}
+use Rattle.rules.specs.InlineBlock.{isActive, isInlineBlock, beginsInline, beginIfPossible}
 use Rattle.rules.specs.Formatter.{kindIs, previousNonWhitespaceToken, foldsIn, cutsBefore, blankBetween, formatOpeningParentheses}
 use Rattle.ascii.specs.Part.{part as bytes}
 use Rattle.text.specs.Held.{textOf, Laid}

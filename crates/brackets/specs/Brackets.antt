@@ -6,11 +6,10 @@ use lib.Dec.{eqb}
 use Rattle.rules.specs.declared.Case.{Case}
 use Rattle.rules.specs.declared.FormatOptions.{FormatOptions}
 use Rattle.rules.specs.declared.TokenKind.the-variants.{ReservedTopLevel}
-use Rattle.rules.specs.Base.{choose, holds, isSome}
+use Rattle.rules.specs.Base.{choose, holds, isSome, full}
 use Rattle.rules.specs.Bytes.{bytes}
 use Rattle.rules.specs.Text.{Text, inCase, isLower}
 use Rattle.rules.specs.Indentation.{Indentation, unfolded, previousTopLevelReserved}
-use Rattle.rules.specs.InlineBlock.{full}
 use Rattle.rules.specs.Formatter.{kindIs, previousNonWhitespaceToken, foldsIn, cutsBefore, blankBetween}
 use Rattle.keeps.specs.CaseOf.{caseOf}
 use Rattle.query.specs.Query.{closingInline, closing}

@@ -3,21 +3,21 @@ ghost use mathlib.Core.Path.{_≡_};
 ghost use mathlib.Core.Bool.{_&&_};
 ghost use Prim.Native.Nat.{_≤_, _<_};
 ghost use lib.ListN.{length};
-ghost use Rattle.rules.specs.Base.{holds, isSome};
-ghost use Rattle.rules.specs.InlineBlock.{beginsInline, full};
+ghost use Rattle.rules.specs.Base.{holds, isSome, full};
+ghost use Rattle.rules.specs.InlineBlock.{beginsInline};
 ghost use Rattle.rules.specs.Formatter.{foldsIn, formatOpeningParentheses, formatClosingParentheses};
 ghost use Rattle.indentation.specs.Of.{spanIn, indentationOf, Clean};
 ghost use Rattle.inline_block.specs.Of.{inlineBlockOf};
 ghost use Rattle.text.specs.Held.{textOf, Held, Laid};
 ghost use Rattle.query_brackets.specs.Opening.{opening};
 ghost use Rattle.state.specs.Of.{Known, Ready, Handled, given};
-ghost use Rattle.brackets.specs.Brackets.{caseIn, bracketIn, foldedIn, openingIn, endsUnder, closingOf};
+ghost use Rattle.brackets.specs.Brackets.{bracketIn, foldedIn, openingIn, endsUnder, closingOf};
 use indentation::Indentation;
 use indentation::TopLevel;
 use inline_block::InlineBlock;
 use query_brackets::Opening;
+use reserved::case_of;
 use rules::BlockInfo;
-use rules::Case;
 use rules::FormatOptions;
 use rules::Limit;
 use state::Context;
@@ -120,24 +120,13 @@ fn opening_at(
     }
 }
 
-fn case_at(sheet: &[u8], x: Context, i: usize) -> Case
-    requires { ⌜ (Known (now sheet) x) × (i < x .counts .tokens) ⌝ }
-    ensures { λ r. ⌜ r ≡ caseIn (now (sheet .entry)) x i ⌝ }
-{
-    let p = tokens::value_at(sheet, i);
-    let c = x.counts;
-    let o = x.options;
-    let casing = o.casing;
-    keeps::case_for(sheet, c, casing, p)
-}
-
 fn push_opening(query: &mut [u8], t: Text, sheet: &[u8], x: Context, i: usize, how: Opening) -> Text
     requires { ⌜ Held t (now query) ⌝ }
     requires { ⌜ (Known (now sheet) x) × (i < x .counts .tokens) × (how .level ≤ 128) ⌝ }
     ensures { λ r. ⌜ Laid (length (now (query .entry))) (opening (length (now (query .entry))) (x .options) how (bracketIn (now (sheet .entry)) x i) (textOf t (now (query .entry)))) r (now (query .exit)) ⌝ }
 {
     let v = value_of(sheet, x, i);
-    let k = case_at(sheet, x, i);
+    let k = case_of(sheet, x, i);
     let o = x.options;
     query_brackets::format_opening_parentheses(query, t, sheet, v, k, o, how)
 }
@@ -202,7 +191,7 @@ fn push_closing(
     ensures { λ r. ⌜ Laid (length (now (query .entry))) (closingOf (length (now (query .entry))) (x .options) active eight level (bracketIn (now (sheet .entry)) x i) (textOf t (now (query .entry)))) r (now (query .exit)) ⌝ }
 {
     let v = value_of(sheet, x, i);
-    let k = case_at(sheet, x, i);
+    let k = case_of(sheet, x, i);
     if active {
         let is_end = ascii::is_lower(sheet, v.start, v.len, b"end");
         return query_brackets::format_closing_inline(query, t, sheet, v, k, is_end);

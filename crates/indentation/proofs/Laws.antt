@@ -15,11 +15,10 @@ use borrow.Author.Tests.{le-leb, lt-leb, ne-eqb, eqb-true, ltb-true, ltb-false, 
 use Rattle.rules.specs.declared.IndentType.{IndentType}
 use Rattle.rules.specs.declared.IndentType.the-variants.{Top, Block, FoldedBlock}
 use Rattle.rules.specs.declared.SpanInfo.{SpanInfo}
-use Rattle.rules.specs.Base.{if_then_else_, when}
-use Rattle.rules.specs.InlineBlock.{full}
+use Rattle.rules.specs.Base.{if_then_else_, when, full}
 use Rattle.rules.specs.Indentation.{Indentation, PreviousTokens, noIndentation, markReserved, markTopLevel, increaseTopLevel, increaseBlockLevel, decreaseTopLevel, popTop, decreaseBlockLevel, popBlock, setPreviousReserved, setPreviousTopLevel, lastTopLevel, lastReserved, previousReserved, previousTopLevelReserved, unfolded, indentLevel, span, noPrevious as noneBefore}
 use Rattle.stacks.specs.Stack.{stack, Kept, withinOf}
-use Rattle.stacks.specs.Laws.{length-stack, stack-push, stack-put, stack-pop, stack-popped, kept-push, kept-put, kept-pop, every-set, kept-none, every-same, same-or, left-of, right-of, unless-both}
+use Rattle.stacks.specs.Laws.{length-stack, stack-push, stack-put, stack-pop, stack-popped, kept-push, kept-put, kept-pop, every-set, kept-none, every-same, same-or, left-of, right-of, unless-both, tail-map}
 use Rattle.indentation.specs.declared.Indentation.{Indentation as Code}
 use Rattle.indentation.specs.declared.Previous.{Previous}
 use Rattle.indentation.specs.Of.{reservedAfter, topLevelAfter, topIn, typeOf, kindFor, weightOf, wordOf, topOf, previousOf, noPrevious, typesOf, indentationOf, lastOf, tops, endsTop, Told, Clean, Stands, StandsClosed}
@@ -75,10 +74,6 @@ by-told b sp h = rw h
 pub by-untold : (b : Bool) (sp : SpanInfo) → b ≡ false → none ≡ topOf b sp
 unfolding topOf
 by-untold b sp h = rw h
-
-tail-map : {A B : Type 0} (f : A → B) (l : List A) → map f (tail l) ≡ tail (map f l)
-tail-map f [] = refl
-tail-map f (x ∷ xs) = refl
 
 -- ---- a top-level entry on a list of entries
 

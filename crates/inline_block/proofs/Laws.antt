@@ -8,8 +8,8 @@ use lib.Dec.{leb, ltb}
 use lib.ListN.{length, getD, set, replicate}
 use lib.Seq.{set-getD}
 use borrow.Author.Tests.{le-leb, lt-leb, ltb-true, ltb-false}
-use Rattle.rules.specs.Base.{if_then_else_}
-use Rattle.rules.specs.InlineBlock.{isActive, curLen, full, beginIfPossible}
+use Rattle.rules.specs.Base.{if_then_else_, full}
+use Rattle.rules.specs.InlineBlock.{isActive, curLen, beginIfPossible}
 use Rattle.stacks.specs.Stack.{withinOf}
 use Rattle.stacks.specs.Laws.{length-stack, stack-push, stack-pop, stack-popped, kept-none, kept-push, kept-pop, left-of, right-of}
 use Rattle.inline_block.specs.declared.InlineBlock.{InlineBlock}

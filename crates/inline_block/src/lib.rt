@@ -1,7 +1,8 @@
 // inline_block.rs: the open inline blocks by value. What a block holds is read ahead, in another crate.
 ghost use mathlib.Core.Path.{_≡_};
 ghost use mathlib.Core.List.{[], tail};
-ghost use Rattle.rules.specs.InlineBlock.{isActive, curLen, full, beginIfPossible};
+ghost use Rattle.rules.specs.InlineBlock.{isActive, curLen, beginIfPossible};
+ghost use Rattle.rules.specs.Base.{full};
 ghost use Rattle.inline_block.specs.Of.{inlineBlockOf, Clean, Stands};
 use stacks::both;
 use stacks::chosen;

@@ -9,13 +9,13 @@ use lib.ListN.{length}
 use Rattle.rules.specs.declared.SpanInfo.{SpanInfo}
 use Rattle.rules.specs.declared.BlockInfo.{BlockInfo}
 use Rattle.rules.specs.declared.TokenKind.the-variants as kind
-use Rattle.rules.specs.Base.{if_then_else_, _▹_, holds, isSome, choose, when}
+use Rattle.rules.specs.Base.{if_then_else_, _▹_, holds, isSome, choose, when, full}
 use Rattle.rules.specs.Bytes.{bytes}
 use Rattle.rules.specs.Tokens.{Here}
 use Rattle.rules.specs.Sheet.{Env}
 use Rattle.rules.specs.Text.{Text, append, cutBlanks, isLower, equalizeWhitespace}
 use Rattle.rules.specs.Indentation.{Indentation, Closed, noIndentation, indentLevel, unfolded, increaseBlockLevel, decreaseTopLevel, decreaseBlockLevel, setPreviousReserved, setPreviousTopLevel, previousTopLevelReserved, span, increaseTopLevel as increaseTop}
-use Rattle.rules.specs.InlineBlock.{isActive, full, beginsInline, beginIfPossible}
+use Rattle.rules.specs.InlineBlock.{isActive, beginsInline, beginIfPossible}
 use Rattle.rules.specs.Params.{get, advances, offends}
 use Rattle.rules.specs.State.{State, onText, onIndentation, onInlineBlock, onBlockLevel, onIndex, refuseIf, pushStr, push, trimSpacesEnd, trimAllSpacesEnd, getIndent, addNewLineInner, addNewLine, increaseTopLevel, oneBlank as oneBlankS}
 use Rattle.rules.specs.Formatter as rule

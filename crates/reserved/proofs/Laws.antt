@@ -12,13 +12,13 @@ use Rattle.rules.specs.declared.Limit.{Limit}
 use Rattle.rules.specs.declared.Limit.the-variants as limits
 use Rattle.rules.specs.declared.Place.{Place}
 use Rattle.rules.specs.declared.SpanInfo.{SpanInfo}
-use Rattle.rules.specs.Base.{when}
+use Rattle.rules.specs.Base.{when, full}
 use Rattle.rules.specs.Text.{Text, inCase, equalizeWhitespace}
 use Rattle.rules.specs.Words.{bodyAt, tokenAt}
 use Rattle.rules.specs.Sheet.{part, envOf}
 use Rattle.rules.specs.State.{State}
 use Rattle.rules.specs.Indentation.{Indentation, indentLevel, increaseTopLevel, setPreviousReserved, previousTopLevelReserved, span}
-use Rattle.rules.specs.InlineBlock.{isActive, full}
+use Rattle.rules.specs.InlineBlock.{isActive}
 use Rattle.rules.specs.Formatter.{formatReservedWord, afterLineComment, overLimit, formatNewlineReservedWord, formatReserved}
 use Rattle.ascii.specs.Part.{part as bytes}
 use Rattle.text.specs.Held.{textOf, Laid}

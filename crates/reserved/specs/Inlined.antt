@@ -4,8 +4,7 @@ use mathlib.Core.Bool.{Bool, false, not, _&&_}
 use mathlib.Core.Option.{Option, none, some}
 use Prim.Native.Nat.{ℕ, _≤_}
 use Rattle.rules.specs.declared.SpanInfo.{SpanInfo}
-use Rattle.rules.specs.Base.{when}
-use Rattle.rules.specs.InlineBlock.{full}
+use Rattle.rules.specs.Base.{when, full}
 use Rattle.rules.specs.Indentation.{Indentation, indentLevel, increaseTopLevel, setPreviousReserved, previousTopLevelReserved}
 use Rattle.indentation.specs.Of.{noSpan, Stands}
 use Rattle.reserved.specs.declared.Newline.{Newline}

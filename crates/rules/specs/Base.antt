@@ -3,7 +3,8 @@ use mathlib.Core.Bool.{Bool, true, false, _&&_, _||_}
 use mathlib.Core.Option.{Option, none, some}
 use mathlib.Core.List.{List, [], _∷_}
 use Prim.Native.Nat.{ℕ, zero, suc}
-use lib.Dec.{eqb}
+use lib.Dec.{eqb, leb}
+use lib.ListN.{length}
 use Rattle.rules.specs.declared.Limit.{Limit}
 use Rattle.rules.specs.declared.Limit.the-variants as limit
 
@@ -66,3 +67,7 @@ orZero (limit.Some n) = n
 abbrev pub isSome : Limit → Bool
 isSome limit.None = false
 isSome (limit.Some n) = true
+
+-- the indent stack and the inline blocks hold 128 entries each
+unfoldable pub full {ℓ} : {A : Type ℓ} → List A → Bool
+full l = leb 128 (length l)

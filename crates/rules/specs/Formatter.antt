@@ -14,12 +14,12 @@ use Rattle.rules.specs.declared.Limit.the-variants as limit
 use Rattle.rules.specs.declared.SpanInfo.{SpanInfo}
 use Rattle.rules.specs.declared.BlockInfo.{BlockInfo}
 use Rattle.rules.specs.Bytes.{bytes}
-use Rattle.rules.specs.Base.{if_then_else_, _▹_, same, anyOf, first, head?, holds, orZero, isSome, choose, when}
+use Rattle.rules.specs.Base.{if_then_else_, _▹_, same, anyOf, first, head?, holds, orZero, isSome, choose, when, full}
 use Rattle.rules.specs.Tokens.{Token, Here, is, oneOf}
 use Rattle.rules.specs.Sheet.{Env}
 use Rattle.rules.specs.Text.{inCase, isLower, equalizeWhitespace, indentComment}
 use Rattle.rules.specs.Span.{topLevelTokensInfo}
-use Rattle.rules.specs.InlineBlock.{buildInfo, isActive, curLen, full, beginsInline, beginIfPossible}
+use Rattle.rules.specs.InlineBlock.{buildInfo, isActive, curLen, beginsInline, beginIfPossible}
 use Rattle.rules.specs.Indentation.{noIndentation, unfolded, increaseBlockLevel, decreaseTopLevel, decreaseBlockLevel, setPreviousReserved, setPreviousTopLevel, previousReserved, previousTopLevelReserved, span}
 use Rattle.rules.specs.Params.{get, advances, offends}
 use Rattle.rules.specs.State.{State, onIndentation, onInlineBlock, onBlockLevel, onIndex, refuseIf, pushStr, push, trimSpacesEnd, trimAllSpacesEnd, oneBlank, getIndent, addNewLineInner, addNewLine, increaseTopLevel}

@@ -8,8 +8,7 @@ use lib.ListN.{getD}
 use Rattle.rules.specs.declared.IndentType.{IndentType}
 use Rattle.rules.specs.declared.IndentType.the-variants.{Top, Block, FoldedBlock}
 use Rattle.rules.specs.declared.SpanInfo.{SpanInfo}
-use Rattle.rules.specs.Base.{if_then_else_}
-use Rattle.rules.specs.InlineBlock.{full}
+use Rattle.rules.specs.Base.{if_then_else_, full}
 
 -- the last top-level word's span, and the last reserved word
 pub record PreviousTokens (W : Type 0) : Type 0 where

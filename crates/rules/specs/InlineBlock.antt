@@ -13,7 +13,7 @@ use Rattle.rules.specs.declared.Start.the-variants as start
 use Rattle.rules.specs.declared.BlockInfo.{BlockInfo}
 use Rattle.rules.specs.declared.FormatOptions.{FormatOptions}
 use Rattle.rules.specs.Bytes.{bytes}
-use Rattle.rules.specs.Base.{if_then_else_, same, orZero}
+use Rattle.rules.specs.Base.{if_then_else_, same, orZero, full}
 use Rattle.rules.specs.Tokens.{Token}
 
 -- ---- build_info
@@ -149,10 +149,6 @@ curLen l = getD l 0 0
 -- a block starts inline only if it fits; inside an inline block every one does
 unfoldable pub beginsInline : FormatOptions → BlockInfo → List ℕ → Bool
 beginsInline op b l = isActive l || isInlineBlock op b
-
--- the indent stack and the inline blocks hold 128 entries each
-unfoldable pub full {ℓ} : {A : Type ℓ} → List A → Bool
-full l = leb 128 (length l)
 
 -- a block that begins inline, where there is room for it
 unfoldable pub beginIfPossible : Bool → ℕ → List ℕ → List ℕ

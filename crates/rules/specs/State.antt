@@ -3,12 +3,11 @@ use mathlib.Core.Bool.{Bool, false}
 use mathlib.Core.List.{List, [], _∷_}
 use Prim.Native.Nat.{ℕ}
 use Rattle.rules.specs.declared.SpanInfo.{SpanInfo}
-use Rattle.rules.specs.Base.{if_then_else_, _▹_}
+use Rattle.rules.specs.Base.{if_then_else_, _▹_, full}
 use Rattle.rules.specs.Sheet.{Env}
 use Rattle.rules.specs.Text.{Text, fits, append, refuse, cutBlanks, cutWhite, indentOf, newLine}
 use Rattle.rules.specs.Indentation.{Indentation, noIndentation, indentLevel}
 use Rattle.rules.specs.Indentation as indentation
-use Rattle.rules.specs.InlineBlock.{full}
 
 -- inlineBlock: the lengths of the open inline blocks; blockLevel: the open level; index: the next parameter
 pub record State : Type 0 where

@@ -7,8 +7,7 @@ use native.Mathlib.Omega.{arith}
 use Rattle.rules.specs.declared.IndentType.{IndentType}
 use Rattle.rules.specs.declared.IndentType.the-variants.{Top, Block, FoldedBlock}
 use Rattle.rules.specs.declared.SpanInfo.{SpanInfo}
-use Rattle.rules.specs.Base.{if_then_else_}
-use Rattle.rules.specs.InlineBlock.{full}
+use Rattle.rules.specs.Base.{if_then_else_, full}
 use Rattle.rules.specs.Indentation.{Indentation, PreviousTokens, noIndentation, noPrevious, increaseTopLevel, increaseBlockLevel, popTop, decreaseTopLevel, popBlock, decreaseBlockLevel, markReserved, markTopLevel, setPreviousReserved, setPreviousTopLevel, lastReserved, previousReserved}
 
 -- a word, where there is one

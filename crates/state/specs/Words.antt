@@ -7,8 +7,8 @@ use Prim.Native.Nat.{ℕ}
 use Rattle.rules.specs.declared.IndentType.{IndentType}
 use Rattle.rules.specs.declared.IndentType.the-variants.{Top, Block, FoldedBlock}
 use Rattle.rules.specs.declared.SpanInfo.{SpanInfo}
-use Rattle.rules.specs.Base.{if_then_else_}
-use Rattle.rules.specs.InlineBlock.{full}
+use Rattle.rules.specs.Base.{if_then_else_, full}
+use Rattle.stacks.specs.Laws.{tail-map}
 use Rattle.rules.specs.Indentation.{Indentation, indentLevel, PreviousTokens, Closed, noIndentation, noPrevious, increaseTopLevel, increaseBlockLevel, popTop, decreaseTopLevel, popBlock, decreaseBlockLevel, markReserved, markTopLevel, setPreviousReserved, setPreviousTopLevel, lastReserved, lastTopLevel, previousReserved, previousTopLevelReserved}
 
 module _ {A B : Type 0} (f : A → B) where
@@ -21,10 +21,6 @@ module _ {A B : Type 0} (f : A → B) where
 
   unfoldable pub onWords : Indentation A → Indentation B
   onWords i = record { indentTypes = i .indentTypes; topLevelSpan = i .topLevelSpan; previous = map onPrevious (i .previous) }
-
-  tail-map : (l : List (PreviousTokens A)) → map onPrevious (tail l) ≡ tail (map onPrevious l)
-  tail-map [] = refl
-  tail-map (p ∷ ps) = refl
 
   pub none-words : onWords noIndentation ≡ noIndentation
   unfolding onWords noIndentation

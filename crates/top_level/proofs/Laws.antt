@@ -19,7 +19,6 @@ use Rattle.rules.specs.Words.{tokenAt}
 use Rattle.rules.specs.Sheet.{Env, envOf}
 use Rattle.rules.specs.State.{State}
 use Rattle.rules.specs.Indentation.{Indentation, unfolded, indentLevel, increaseTopLevel, popTop, decreaseTopLevel, setPreviousTopLevel, previousTopLevelReserved}
-use Rattle.rules.specs.InlineBlock.{full}
 use Rattle.rules.specs.Formatter.{newlineBefore, formatTopLevelReservedWord, formatTopLevelReservedWordNoIndent, formatNewlineAfterReservedWord}
 use Rattle.text.specs.Held.{textOf, Laid}
 use Rattle.text.specs.declared.Text.{Text as CodeText}
@@ -38,7 +37,7 @@ use Rattle.state.specs.Words.{onWords, top-words, untop-words, top-level-words,
 use Rattle.state.specs.Below.{Below, below-up, top-below, untop-below, top-level-below}
 use Rattle.state.specs.Of.{valueIn, wordOf, stateOf, withIndentation, Known, Ready, envIn, hereIn, Handled, given}
 use Rattle.state.proofs.Laws.{by-halves}
-use Rattle.rules.specs.Base.{if_then_else_, when}
+use Rattle.rules.specs.Base.{if_then_else_, when, full}
 use Rattle.reserved.proofs.Laws.{when-below, when-words, level-words, full-words, written, word-is}
 use Rattle.top_level.specs.declared.Levels.{Levels}
 use Rattle.top_level.specs.Levels.{outOf, intoOf, Turned}
@@ -46,38 +45,38 @@ use Rattle.top_level.specs.Levels.{outOf, intoOf, Turned}
 -- ---- the stacks around the word
 
 -- a top-level entry counts for one level
-record Counts (less more : List IndentType) : Type 0 where
+record Fewer (less more : List IndentType) : Type 0 where
   fewer : length less ≤ length more
   levels : unfolded more ≡ unfolded less + (length more - length less)
 
-counts-same : (ts : List IndentType) → Counts ts ts
+counts-same : (ts : List IndentType) → Fewer ts ts
 counts-same ts = record { fewer = omega arith; levels = omega arith }
 
-counts-top : (ts : List IndentType) → Counts ts (Top ∷ ts)
+counts-top : (ts : List IndentType) → Fewer ts (Top ∷ ts)
 unfolding unfolded
 counts-top ts = record { fewer = omega arith; levels = omega arith }
 
-untop-counts : (b : Bool) (i : Indentation ℕ) → Counts (when b decreaseTopLevel i .indentTypes) (i .indentTypes)
+untop-counts : (b : Bool) (i : Indentation ℕ) → Fewer (when b decreaseTopLevel i .indentTypes) (i .indentTypes)
 unfolding when decreaseTopLevel popTop
 untop-counts false i = counts-same (i .indentTypes)
 untop-counts true i = go (i .indentTypes) refl
   where
-    go : (ts : List IndentType) → i .indentTypes ≡ ts → Counts (popTop ts i .indentTypes) ts
+    go : (ts : List IndentType) → i .indentTypes ≡ ts → Fewer (popTop ts i .indentTypes) ts
     go [] e = rw e (counts-same [])
     go (Top ∷ ts) e = counts-top ts
     go (Block ∷ ts) e = rw e (counts-same (Block ∷ ts))
     go (FoldedBlock ∷ ts) e = rw e (counts-same (FoldedBlock ∷ ts))
 
-top-counts : (b : Bool) (sp : SpanInfo) (i : Indentation ℕ) → Counts (i .indentTypes) (when b (increaseTopLevel sp) i .indentTypes)
+top-counts : (b : Bool) (sp : SpanInfo) (i : Indentation ℕ) → Fewer (i .indentTypes) (when b (increaseTopLevel sp) i .indentTypes)
 unfolding when increaseTopLevel
 top-counts false sp i = counts-same (i .indentTypes)
 top-counts true sp i = go (full (i .indentTypes))
   where
-    go : (b : Bool) → Counts (i .indentTypes) ((if b then i else record { indentTypes = Top ∷ i .indentTypes; topLevelSpan = sp .«full_span» ∷ i .topLevelSpan; previous = i .previous }) .indentTypes)
+    go : (b : Bool) → Fewer (i .indentTypes) ((if b then i else record { indentTypes = Top ∷ i .indentTypes; topLevelSpan = sp .«full_span» ∷ i .topLevelSpan; previous = i .previous }) .indentTypes)
     go true = counts-same (i .indentTypes)
     go false = counts-top (i .indentTypes)
 
-level-counts : (less more : Stacks) → Counts (indentationOf less .indentTypes) (indentationOf more .indentTypes)
+level-counts : (less more : Stacks) → Fewer (indentationOf less .indentTypes) (indentationOf more .indentTypes)
     → (less .nkinds ≤ more .nkinds) × (indentLevel false (indentationOf more) ≡ indentLevel false (indentationOf less) + (more .nkinds - less .nkinds))
 unfolding indentationOf indentLevel
 level-counts less more c =

@@ -3,10 +3,9 @@ use mathlib.Core.Path.{_≡_}
 use mathlib.Core.Bool.{Bool, false}
 use Prim.Native.Nat.{ℕ, _≤_}
 use Rattle.rules.specs.declared.SpanInfo.{SpanInfo}
-use Rattle.rules.specs.InlineBlock.{full}
 use Rattle.rules.specs.Indentation.{Indentation, indentLevel, increaseTopLevel, decreaseTopLevel, setPreviousTopLevel}
 use Rattle.indentation.specs.Of.{Stands}
-use Rattle.rules.specs.Base.{when}
+use Rattle.rules.specs.Base.{when, full}
 use Rattle.top_level.specs.declared.Levels.{Levels}
 
 -- the stacks before the word, and after it

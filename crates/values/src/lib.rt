@@ -2,19 +2,18 @@
 ghost use mathlib.Core.Path.{_≡_};
 ghost use mathlib.Core.Bool.{false};
 ghost use Prim.Native.Nat.{_+_, _≤_};
-ghost use Rattle.rules.specs.Base.{orZero};
 ghost use Rattle.rules.specs.Formatter.{formatNoChange, formatWithSpaces, formatWithSpaceAfter, formatWithoutSpaces, formatComma, formatQuerySeparator, formatPlaceholder, formatByValue, spanWithin};
 ghost use Rattle.indentation.specs.Of.{wordIn, spanIn, indentationOf, Clean};
 ghost use Rattle.state.specs.Of.{Known, Ready, Handled, withText};
 ghost use Rattle.state.specs.Below.{WordBelow, Below};
 ghost use Rattle.values.specs.Comma.{limitIn, breaksIn};
 ghost use Rattle.values.specs.On.{onValue, onToken, placed, withIndex, separates};
+use ahead::or_zero;
 use around::is_byte;
 use indentation::Indentation;
 use indentation::TopLevel;
 use indentation::Word;
 use query::Value;
-use rules::Limit;
 use rules::Place;
 use state::Context;
 use state::State;
@@ -78,15 +77,6 @@ fn is_limit(sheet: &[u8], x: Context, w: Word) -> bool
             let v = value_of(sheet, x, n as usize);
             ascii::is_lower(sheet, v.start, v.len, b"limit")
         }
-    }
-}
-
-fn or_zero(limit: Limit) -> u32
-    ensures { λ r. ⌜ r ≡ orZero limit ⌝ }
-{
-    match limit {
-        Limit::None => 0,
-        Limit::Some(n) => n,
     }
 }
 

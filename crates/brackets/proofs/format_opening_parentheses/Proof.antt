@@ -1,15 +1,6 @@
 use borrow.Author.Needs.{needs}
 use Rattle.brackets.proofs.format_opening_parentheses.Statement.{statement}
 use Rattle.brackets.proofs.format_opening_parentheses.Tie as tie
-use Rattle.brackets.proofs.format_opening_parentheses.Reads as reads
-use Rattle.brackets.proofs.format_opening_parentheses.Lts as lts
-use Rattle.brackets.proofs.begins_inline.Reads as begins-inline-reads
-use Rattle.brackets.proofs.is_folded.Reads as is-folded-reads
-use Rattle.brackets.proofs.opening_at.Reads as opening-at-reads
-use Rattle.brackets.proofs.push_opening.Reads as push-opening-reads
-use Rattle.indentation.proofs.Indentation.increase_block_level.Reads as increase-block-level-reads
-use Rattle.indentation.proofs.Indentation.indent_level.Reads as indent-level-reads
-use Rattle.inline_block.proofs.InlineBlock.begin_if_possible.Reads as begin-if-possible-reads
 use denote.Ref.{now}
 use native.Mathlib.Omega.{arith}
 use Rattle.brackets.proofs.OpeningLaws.{by-opening}

@@ -7,8 +7,8 @@ use Rattle.brackets.proofs.push_closing.Tie as tie
 value-of-requires : tie.Need-value-of-requires
 value-of-requires c κs = search needs
 
-case-at-requires : tie.Need-case-at-requires
-case-at-requires c κs = search needs
+case-of-requires : tie.Need-case-of-requires
+case-of-requires c κs = search needs
 
 slice-aggregate-is-lower : tie.Need-slice-aggregate-is-lower
 slice-aggregate-is-lower c = search needs
@@ -39,7 +39,7 @@ push-closing-spec =
     tie.close
     (tie.spec
     value-of-requires
-    case-at-requires
+    case-of-requires
     slice-aggregate-is-lower
     is-lower-requires
     format-closing-inline-requires

@@ -7,8 +7,8 @@ use Rattle.brackets.proofs.push_opening.Tie as tie
 value-of-requires : tie.Need-value-of-requires
 value-of-requires c κs = search needs
 
-case-at-requires : tie.Need-case-at-requires
-case-at-requires c κs = search needs
+case-of-requires : tie.Need-case-of-requires
+case-of-requires c κs = search needs
 
 format-opening-parentheses-requires : tie.Need-format-opening-parentheses-requires
 format-opening-parentheses-requires c κs = search (needs, value-inside)
@@ -24,7 +24,7 @@ push-opening-spec =
     tie.close
     (tie.spec
     value-of-requires
-    case-at-requires
+    case-of-requires
     format-opening-parentheses-requires
     same-length
     returns)

@@ -1,28 +1,5 @@
 use Rattle.formatter.proofs.format.Statement.{statement}
 use Rattle.formatter.proofs.format.Tie as tie
-use Rattle.formatter.proofs.format.Reads as reads
-use Rattle.formatter.proofs.format.Lts as lts
-use Rattle.blocks.proofs.build_info.Reads as build-info-reads
-use Rattle.brackets.proofs.format_closing_parentheses.Reads as format-closing-parentheses-reads
-use Rattle.brackets.proofs.format_opening_parentheses.Reads as format-opening-parentheses-reads
-use Rattle.fmt_switch.proofs.Switch.after.Reads as after-reads
-use Rattle.fmt_switch.proofs.Switch.new.Reads as new-reads
-use Rattle.fmt_switch.proofs.Switch.turn_of.Reads as turn-of-reads
-use Rattle.formatter.proofs.begin.Reads as begin-reads
-use Rattle.formatter.proofs.changes.Reads as changes-reads
-use Rattle.formatter.proofs.finish.Reads as finish-reads
-use Rattle.formatter.proofs.span_info.Reads as span-info-reads
-use Rattle.formatter.proofs.text_taken_as.Reads as text-taken-as-reads
-use Rattle.inline_block.proofs.InlineBlock.cur_len.Reads as cur-len-reads
-use Rattle.reserved.proofs.format_newline_reserved_word.Reads as format-newline-reserved-word-reads
-use Rattle.reserved.proofs.format_reserved.Reads as format-reserved-reads
-use Rattle.state.proofs.value_of.Reads as value-of-reads
-use Rattle.tokens.proofs.kind_at.Reads as kind-at-reads
-use Rattle.top_level.proofs.format_newline_after_reserved_word.Reads as format-newline-after-reserved-word-reads
-use Rattle.top_level.proofs.format_top_level_reserved_word.Reads as format-top-level-reserved-word-reads
-use Rattle.top_level.proofs.format_top_level_reserved_word_no_indent.Reads as format-top-level-reserved-word-no-indent-reads
-use Rattle.values.proofs.format_placeholder.Reads as format-placeholder-reads
-use Rattle.values.proofs.format_query_separator.Reads as format-query-separator-reads
 use mathlib.Core.List.{[]}
 use mathlib.Core.Logic.{⊎-elim}
 use mathlib.Core.Path.{_≡_, sym, _∙_}

@@ -1,14 +1,6 @@
 use borrow.Author.Needs.{needs}
 use Rattle.top_level.proofs.format_top_level_reserved_word_no_indent.Statement.{statement}
 use Rattle.top_level.proofs.format_top_level_reserved_word_no_indent.Tie as tie
-use Rattle.top_level.proofs.format_top_level_reserved_word_no_indent.Reads as reads
-use Rattle.top_level.proofs.format_top_level_reserved_word_no_indent.Lts as lts
-use Rattle.indentation.proofs.Indentation.indent_level.Reads as indent-level-reads
-use Rattle.query_reserved.proofs.format_top_level_reserved_word.Reads as format-top-level-reserved-word-reads
-use Rattle.reserved.proofs.case_of.Reads as case-of-reads
-use Rattle.state.proofs.State.with_indentation.Reads as with-indentation-reads
-use Rattle.state.proofs.value_of.Reads as value-of-reads
-use Rattle.top_level.proofs.levels_around.Reads as levels-around-reads
 use denote.Ref.{now}
 use Rattle.state.proofs.Laws.{value-inside}
 use Rattle.top_level.proofs.Laws.{by-no-indent}
