@@ -7,20 +7,17 @@ use native.Mathlib.Omega.{arith}
 use borrow.Author.Tests.{leb-true, le-leb, lt-leb}
 use lib.Dec.{leb}
 use lib.ListN.{length}
-use Rattle.rules.specs.Base.{if_then_else_}
 use Rattle.rules.specs.declared.Case.{Case}
 use Rattle.rules.specs.declared.Case.the-variants as case
-use Rattle.rules.specs.declared.Place.{Place}
-use Rattle.rules.specs.Words.{tokenAt, bodyAt}
-use Rattle.rules.specs.Sheet.{Env, part}
+use Rattle.rules.specs.Base.{if_then_else_}
+use Rattle.rules.specs.Sheet.{Env}
 use Rattle.rules.specs.Tokens.{Here}
 use Rattle.rules.specs.Text.{Text, toUpper, toLower, byteInCase, inCase}
 use Rattle.rules.specs.State.{State}
 use Rattle.rules.specs.Indentation.{Indentation}
 use Rattle.rules.specs.Formatter.{formatReservedWord}
 use Rattle.ascii.specs.Part.{part as bytes}
-use Rattle.tokens.specs.Placed.{Inside}
-use Rattle.keeps.specs.CaseOf.{caseOf, rules-case}
+use Rattle.keeps.specs.CaseOf.{rules-case}
 use Rattle.text.specs.Held.{Laid}
 use Rattle.text.specs.declared.Text.{Text as CodeText}
 use Rattle.indentation.specs.Of.{Stands}
