@@ -55,6 +55,11 @@ movedAs state move.On = done (some false)
 movedAs state move.Off = done (some true)
 movedAs state move.Ends = done none
 
+-- how many bytes at the start are c
+abbrev pub runOf : ℕ → List ℕ → ℕ
+runOf c [] = 0
+runOf c (x ∷ xs) = if eqb x c then suc (runOf c xs) else 0
+
 abbrev pub isComment : TokenKind → Bool
 isComment k = oneOf (kind.LineComment ∷ kind.BlockComment ∷ []) k
 

@@ -6,8 +6,9 @@ ghost use mathlib.Core.List.{[]};
 ghost use Prim.Native.Nat.{_+_, _≤_, _<_};
 ghost use lib.Dec.{eqb};
 ghost use lib.ListN.{length, getD, take, drop};
+ghost use Rattle.ascii.specs.Part.{part};
 ghost use Rattle.rules.specs.Switch.{fmtTable, inState, moved, checkFmtOff, turnBy, turnOf, switchAfter, switchedOn};
-ghost use Rattle.fmt_switch.specs.Of.{rowOf, saysNothing, movedAs, isComment, saidOf, switchOf};
+ghost use Rattle.fmt_switch.specs.Of.{rowOf, saysNothing, movedAs, runOf, isComment, saidOf, switchOf};
 use rules::TokenKind;
 use rules::Turn;
 
@@ -93,6 +94,21 @@ fn move_on(state: usize, c: u8) -> Move
     Move::Ends
 }
 
+// How many bytes from start on are c.
+fn run_of(s: &[u8], start: usize, n: usize, c: u8) -> usize
+    requires { ⌜ start + n ≤ length (now s) ⌝ }
+    ensures { λ r. ⌜ (r ≡ runOf c (part (now (s .entry)) start n)) × (r ≤ n) ⌝ }
+{
+    let mut i: usize = 0;
+    while i < n {
+        if s[start + i] != c {
+            return i;
+        }
+        i += 1;
+    }
+    i
+}
+
 // A comment is read by prefix: what follows the answer is not.
 pub fn check_fmt_off(s: &[u8], start: usize, n: usize) -> Said
     requires { ⌜ start + n ≤ length (now s) ⌝ }
@@ -101,9 +117,14 @@ pub fn check_fmt_off(s: &[u8], start: usize, n: usize) -> Said
     let mut state: usize = 0;
     let mut i: usize = 0;
     while i < n {
-        let m = move_on(state, s[start + i]);
+        let c = s[start + i];
+        let m = move_on(state, c);
         match m {
-            Move::Stay => {}
+            Move::Stay => {
+                // Bytes that are the same leave the state as well.
+                i += run_of(s, start + i, n - i, c);
+                continue;
+            }
             Move::Next => {
                 state += 1;
             }

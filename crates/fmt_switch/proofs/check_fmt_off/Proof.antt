@@ -1,4 +1,3 @@
-use mathlib.Core.Logic.{⊎-elim}
 use mathlib.Core.Path.{_≡_}
 use Prim.Native.Nat.{_-_, _≤_, _<_}
 use native.Mathlib.Omega.{arith}
@@ -6,7 +5,7 @@ use borrow.Author.Needs.{needs}
 use Rattle.rules.specs.Switch.{inState, readAll, checkFmtOff}
 use Rattle.fmt_switch.specs.Of.{saidOf}
 use Rattle.fmt_switch.proofs.Table.{still-state}
-use Rattle.fmt_switch.proofs.Laws.{rest, whole, by-stay, by-next, by-on, by-off, by-nothing, by-read}
+use Rattle.fmt_switch.proofs.Laws.{rest, by-less, by-stay, by-next, by-on, by-off, by-nothing, by-read}
 use Rattle.fmt_switch.proofs.check_fmt_off.Statement.{statement}
 use Rattle.fmt_switch.proofs.check_fmt_off.Tie as tie
 
@@ -20,11 +19,11 @@ abbrev μ-loop : tie.MeasureT-loop
 loop-holds : tie.Need-loop-holds Inv-loop μ-loop
 loop-holds c = search needs
 
-add-move-on : tie.Need-add-move-on Inv-loop μ-loop
-add-move-on c = omega arith
+add-c : tie.Need-add-c Inv-loop μ-loop
+add-c c = search needs
 
-shared-slice-read-move-on : tie.Need-shared-slice-read-move-on Inv-loop μ-loop
-shared-slice-read-move-on c = omega arith
+shared-slice-read-c : tie.Need-shared-slice-read-c Inv-loop μ-loop
+shared-slice-read-c c = search needs
 
 move-on-requires : tie.Need-move-on-requires Inv-loop μ-loop
 move-on-requires c κs = search needs
@@ -32,59 +31,63 @@ move-on-requires c κs = search needs
 enum-told : tie.Need-enum-told Inv-loop μ-loop
 enum-told c = search needs
 
+add-run-of : tie.Need-add-run-of Inv-loop μ-loop
+add-run-of c = search needs
+
+sub-run-of : tie.Need-sub-run-of Inv-loop μ-loop
+sub-run-of c = search needs
+
+run-of-requires : tie.Need-run-of-requires Inv-loop μ-loop
+run-of-requires c κs = search needs
+
+add-i : tie.Need-add-i Inv-loop μ-loop
+add-i c = search needs
+
+loop-less : tie.Need-loop-less Inv-loop μ-loop
+loop-less c = search (needs, by-less)
+
+loop-again : tie.Need-loop-again Inv-loop μ-loop
+loop-again c = search (needs, by-stay)
+
 enum-told-2 : tie.Need-enum-told-2 Inv-loop μ-loop
 enum-told-2 c = search needs
 
 add-state : tie.Need-add-state Inv-loop μ-loop
-add-state c = omega arith
+add-state c = search needs
 
 enum-told-3 : tie.Need-enum-told-3 Inv-loop μ-loop
 enum-told-3 c = search needs
 
 returns : tie.Need-returns Inv-loop μ-loop
 unfolding saidOf checkFmtOff
-returns c =
-    let l = c .before .before .before .before .before .loop .inv in
-    rw (← whole) (by-on _ _ _ _ _ _ _ (c .before .before .before .before .loop-test .taken) (c .before .before .before .before .before .before .before .pre) (c .before .before .move-on .ensures) (l .2) (c .enum-told3 .given .1))
+returns c = search (needs, by-on)
 
 enum-told-4 : tie.Need-enum-told-4 Inv-loop μ-loop
 enum-told-4 c = search needs
 
 returns-2 : tie.Need-returns-2 Inv-loop μ-loop
 unfolding saidOf checkFmtOff
-returns-2 c =
-    let l = c .before .before .before .before .before .loop .inv in
-    rw (← whole) (by-off _ _ _ _ _ _ _ (c .before .before .before .before .loop-test .taken) (c .before .before .before .before .before .before .before .pre) (c .before .before .move-on .ensures) (l .2) (c .enum-told4 .given .1))
+returns-2 c = search (needs, by-off)
 
 enum-told-5 : tie.Need-enum-told-5 Inv-loop μ-loop
 enum-told-5 c = search needs
 
 returns-3 : tie.Need-returns-3 Inv-loop μ-loop
 unfolding saidOf checkFmtOff
-returns-3 c =
-    let l = c .before .before .before .before .before .loop .inv in
-    rw (← whole) (by-nothing _ _ _ _ _ _ _ (c .before .before .before .before .loop-test .taken) (c .before .before .before .before .before .before .before .pre) (c .before .before .move-on .ensures) (l .2) (c .enum-told5 .given .1))
+returns-3 c = search (needs, by-nothing)
 
-add-i : tie.Need-add-i Inv-loop μ-loop
-add-i c = let h = c .before .before .before .loop-test .taken in omega arith
+add-i-2 : tie.Need-add-i-2 Inv-loop μ-loop
+add-i-2 c = search needs
 
-loop-less : tie.Need-loop-less Inv-loop μ-loop
-loop-less c = let h = c .before .before .before .loop-test .taken in omega arith
+loop-less-2 : tie.Need-loop-less-2 Inv-loop μ-loop
+loop-less-2 c = search needs
 
-loop-again : tie.Need-loop-again Inv-loop μ-loop
-loop-again c =
-    let l = c .before .before .before .before .loop .inv in
-    let here = c .before .before .before .loop-test .taken in
-    let pre = c .before .before .before .before .before .before .pre in
-    let e = c .before .move-on .ensures in
-    ⊎-elim
-    (λ w. rw (w .2) (l .0, omega arith, by-stay _ _ _ _ _ _ _ here pre e (l .2) (w .1 .given .1)))
-    (λ w. rw (w .2) (still-state _ _ _ (l .0) (w .1 .given .1) e, omega arith, by-next _ _ _ _ _ _ _ here pre e (l .2) (w .1 .given .1)))
-    (c .match .came)
+loop-again-2 : tie.Need-loop-again-2 Inv-loop μ-loop
+loop-again-2 c = search (needs, still-state, by-next)
 
 returns-4 : tie.Need-returns-4 Inv-loop μ-loop
 unfolding saidOf checkFmtOff
-returns-4 c = rw (← whole) (search (needs, by-read))
+returns-4 c = search (needs, by-read)
 
 pub check-fmt-off-spec : {M : Type 1} → statement M
 check-fmt-off-spec =
@@ -93,10 +96,16 @@ check-fmt-off-spec =
     Inv-loop
     μ-loop
     loop-holds
-    add-move-on
-    shared-slice-read-move-on
+    add-c
+    shared-slice-read-c
     move-on-requires
     enum-told
+    add-run-of
+    sub-run-of
+    run-of-requires
+    add-i
+    loop-less
+    loop-again
     enum-told-2
     add-state
     enum-told-3
@@ -105,7 +114,7 @@ check-fmt-off-spec =
     returns-2
     enum-told-5
     returns-3
-    add-i
-    loop-less
-    loop-again
+    add-i-2
+    loop-less-2
+    loop-again-2
     returns-4)
