@@ -141,7 +141,7 @@ static int has_sound_head(struct work *w)
     const struct sheet_plan *p = w->plan;
     const struct sheet_options *o = &p->options;
     const uint32_t words[][2] = {{p->mode, TWIGMANTLE_MODE_NAMED}, {o->indent, TWIGMANTLE_INDENT_TABS}, {o->letter_case, TWIGMANTLE_CASE_LOWER},
-                                 {o->one_line, TWIGMANTLE_INLINE_ON}, {o->lines, TWIGMANTLE_MOST_LINES}};
+                                 {o->one_line, TWIGMANTLE_INLINE_COMMENTS}, {o->lines, TWIGMANTLE_MOST_LINES}};
     if (!has_sound_list(w, SHEET_IN_TOKENS, p->tokens, p->token_count, TWIGMANTLE_MOST_TOKENS)
         || !has_sound_list(w, SHEET_IN_PARAMS, p->params, p->param_count, TWIGMANTLE_MOST_PARAMS)
         || !has_sound_list(w, SHEET_IN_KEEPS, p->keeps, p->keep_count, TWIGMANTLE_MOST_KEEPS))

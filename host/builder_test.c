@@ -48,7 +48,7 @@ static void make(void)
 {
     int full = one_in(200);
     plan = (struct sheet_plan){.mode = full ? 1 + under(2) : under(3), .tokens = tokens, .params = params, .keeps = keeps};
-    plan.options = (struct sheet_options){under(257), under(3), under(2), under(256), under(90), one_in(2) ? TWIGMANTLE_LIMIT_NONE : under(90), under(90)};
+    plan.options = (struct sheet_options){under(257), under(3), under(3), under(256), under(90), one_in(2) ? TWIGMANTLE_LIMIT_NONE : under(90), under(90)};
     plan.token_count = full ? TWIGMANTLE_MOST_TOKENS : under(30);
     plan.param_count = full ? TWIGMANTLE_MOST_PARAMS : plan.mode ? under(9) : 0;
     plan.keep_count = full ? TWIGMANTLE_MOST_KEEPS : under(5);
@@ -172,7 +172,7 @@ static void refuses(enum sheet_fault fault, enum sheet_part part, size_t index)
 static void spoilt_head(void)
 {
     struct sheet_options *o = &plan.options, was = *o;
-    uint32_t *const words[] = {&o->indent, &o->letter_case, &o->one_line, &o->lines}, over[] = {257, 3, 2, 256}, i = under(4);
+    uint32_t *const words[] = {&o->indent, &o->letter_case, &o->one_line, &o->lines}, over[] = {257, 3, 3, 256}, i = under(4);
     *words[i] = one_in(2) ? over[i] : over[i] + under(0xffffff00u);
     refuses(SHEET_OPTION, SHEET_IN_HEAD, TWIGMANTLE_HEAD_INDENT + i);
     *o = was;

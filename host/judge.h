@@ -62,7 +62,7 @@ static struct offence offence_at(uint32_t refusal, size_t place)
 /* 2: the options, then each token's words, then the names that the mode forbids. */
 static struct offence word_offence(const struct parts *s)
 {
-    static const uint32_t most[] = {2, 256, 2, 1, 255};
+    static const uint32_t most[] = {2, 256, 2, 2, 255};
     uint32_t mode = word_at(s->sheet, 16);
     if (mode == 0 && s->params > 0)
         return offence_at(2, 16);
@@ -208,12 +208,22 @@ static int is_nought(const struct parts *s, size_t token)
            && (packed >> 5 & 3) == TWIGMANTLE_KEY_ONE_INDEXED && word_at(s->sheet, 48 + 20 * token + 12) == 0;
 }
 
-/* The text without its white bytes is the kept tokens in order, each as its own value, in the asked case, or as its parameter. */
+/* Whether a line ends before the next byte that is not white. The trim may have taken it from either end of the text. */
+static int ends_line(const uint8_t *text, size_t n, size_t at)
+{
+    int ends = at == 0;
+    for (; at < n && is_white(text[at]); at++)
+        ends |= text[at] == '\n';
+    return ends || at == n;
+}
+
+/* The text without its white bytes is the kept tokens in order, each as its own value, in the asked case, or as its parameter; with inline 2 each line comment
+ * that is laid out ends its line. */
 static int is_due(const uint8_t *sheet, const uint8_t *text, size_t n)
 {
     struct parts s = parts_of(sheet);
     size_t at = 0, counter = 0;
-    int on = 1, drop = 0;
+    int on = 1, drop = 0, comments_end_lines = word_at(sheet, 4 * TWIGMANTLE_HEAD_INLINE) == TWIGMANTLE_INLINE_COMMENTS;
     for (size_t i = 0; i < s.tokens; i++) {
         uint32_t kind = word_at(sheet, 48 + 20 * i) & 31, letter_case = TWIGMANTLE_CASE_AS_IS;
         struct value v = place_at(&s, 48 + 20 * i + 4);
@@ -232,6 +242,8 @@ static int is_due(const uint8_t *sheet, const uint8_t *text, size_t n)
         if (on && has_case(kind) && !is_kept_word(&s, v))
             letter_case = word_at(sheet, 4 * TWIGMANTLE_HEAD_CASE);
         if (!follows(v, letter_case, text, n, &at))
+            return 0;
+        if (on && kind == TWIGMANTLE_KIND_LINE_COMMENT && comments_end_lines && !ends_line(text, n, at))
             return 0;
     }
     while (at < n && is_white(text[at]))

@@ -81,6 +81,30 @@ static void known_words(expect *expect)
     expect("comments", &plan, PLENTY, TEXT("a -- note\nb\n/* x\n y */\nc"));
 }
 
+/* The three values of inline around a line comment. */
+static void known_comments(expect *expect)
+{
+    static const struct sheet_token typed[] = {TOKEN(WORD, "a"), TOKEN(LINE_COMMENT, "-- c"), TOKEN(TYPE_SPECIFIER, "::t")};
+    static const struct sheet_token from[] = {TOKEN(WORD, "a"), TOKEN(LINE_COMMENT, "-- c"), TOKEN(RESERVED_TOP_LEVEL, "FROM"), TOKEN(WORD, "x")};
+    static const struct sheet_token fed[] = {TOKEN(LINE_COMMENT, "-- c\n")};
+    static const struct sheet_token ended[] = {TOKEN(WORD, "a"), TOKEN(OPERATOR, ";"), TOKEN(LINE_COMMENT, ""), TOKEN(TYPE_SPECIFIER, "::t")};
+    static const struct sheet_token two[] = {TOKEN(WORD, "a"), TOKEN(OPERATOR, ","), TOKEN(LINE_COMMENT, "-- c"), TOKEN(LINE_COMMENT, "-- d")};
+    static const struct sheet_token folded[] = {TOKEN(LINE_COMMENT, "-- c"), TOKEN(RESERVED_TOP_LEVEL, ""), TOKEN(OPEN_PAREN, "("), TOKEN(WORD, "a"),
+                                                TOKEN(CLOSE_PAREN, ")")};
+    static const char *const texts[][3] = {{"a -- c::t", "a -- c::t", "a -- c\n::t"},   {"a -- c\nFROM\n  x", "a -- c FROM x", "a -- c\n FROM x"},
+                                           {"-- c", "-- c", "-- c"},                    {"a;::t", "a;::t", "a;\n::t"},
+                                           {"a,\n-- c  -- d", "a, -- c  -- d", "a, -- c\n  -- d"}, {"-- c (\n  a\n)", "-- c ( a )", "-- c\n ( a )"}};
+    struct sheet_plan plans[] = {of(LIST(typed)), of(LIST(from)), of(LIST(fed)), of(LIST(ended)), of(LIST(two)), of(LIST(folded))};
+    plans[5].options.block = plans[5].options.top_level = 0;
+    for (uint32_t i = 0; i < 18; i++) {
+        plans[i % 6].options.one_line = i / 6;
+        expect("a line comment with inline 0, 1, 2", &plans[i % 6], PLENTY, TEXT(texts[i % 6][i / 6]));
+    }
+    expect("a line feed in the comment, inline 2", &plans[2], 5, TEXT("-- c"));
+    plans[2].options.one_line = TWIGMANTLE_INLINE_ON;
+    expect("a line feed in the comment, inline 1", &plans[2], 5, REFUSAL(9, 0));
+}
+
 static void known_placeholders(expect *expect)
 {
     static const struct sheet_token three[] = {TOKEN(PLACEHOLDER, "?"), TOKEN(PLACEHOLDER, "?"), TOKEN(PLACEHOLDER, "?")};
@@ -124,6 +148,8 @@ static void known_brackets(expect *expect)
     plan = of(LIST(folded));
     plan.options.block = plan.options.top_level = 0;
     expect("a folded block with no entry left", &plan, PLENTY, REFUSAL(8, 3));
+    plan.options.one_line = TWIGMANTLE_INLINE_COMMENTS;
+    expect("the same with inline 2", &plan, PLENTY, TEXT("CREATE ( a )"));
     for (size_t i = 0; i <= TWIGMANTLE_MOST_DEPTH; i++)
         open[i] = block[0];
     for (size_t i = 0; i + 1 < sizeof opened; i++)
@@ -139,6 +165,7 @@ static void known_sheets(expect *expect)
 {
     known_queries(expect);
     known_words(expect);
+    known_comments(expect);
     known_placeholders(expect);
     known_brackets(expect);
 }

@@ -8,10 +8,12 @@
 
 enum {
     LONGEST = TWIGMANTLE_MOST_SHEET,
+    TYPE_SPECIFIER = TWIGMANTLE_KIND_TYPE_SPECIFIER,
     RESERVED = TWIGMANTLE_KIND_RESERVED,
     TOP_LEVEL = TWIGMANTLE_KIND_RESERVED_TOP_LEVEL,
     OPEN = TWIGMANTLE_KIND_OPEN_PAREN,
     CLOSE = TWIGMANTLE_KIND_CLOSE_PAREN,
+    LINE_COMMENT = TWIGMANTLE_KIND_LINE_COMMENT,
     PLACEHOLDER = TWIGMANTLE_KIND_PLACEHOLDER,
     WORD = TWIGMANTLE_KIND_WORD,
     KINDS = TWIGMANTLE_KIND_LAST + 1
@@ -42,7 +44,8 @@ static void put(uint8_t *sheet, size_t at, uint32_t word)
 
 /* What the bodies are made of: whole words, so that a token can have one as its value. */
 static const char *const WORDS[] = {
-    "SELECT", "from", "is  null", "limit", "case", "END", "calls", "id", "::int", "?", ":line", "$1", "-- fmt: off", "-- fmt: on", "-- note", "/* a\n  b */",
+    "SELECT", "from", "is  null", "limit", "case", "END", "calls", "id", "::int", "?", ":line", "$1", "-- fmt: off", "-- fmt: on", "-- note", "-- end\n",
+    "/* a\n  b */",
     "(", ")", "[", "]", ",", ";", ".", ":", " ", "\n", "\t ", "\v\f\r", "~\n\n", "\001",
 };
 
@@ -81,13 +84,14 @@ static void put_place(uint8_t *sheet, size_t at, const struct bodies *b)
     put(sheet, at + 4, length);
 }
 
-/* What a sheet is mostly made of: any kinds, brackets that go deep (refusal 6), or top-level words with blocks that fold (refusal 8). */
-enum mix { ANY, DEEP, FOLDS };
+/* What a sheet is mostly made of: any kinds, brackets that go deep (refusal 6), top-level words with blocks that fold (refusal 8), or line comments with what
+ * could cut the end of their line. */
+enum mix { ANY, DEEP, FOLDS, COMMENTS };
 
 static void put_token(uint8_t *sheet, size_t at, const struct bodies *b, enum mix mix)
 {
-    static const uint32_t folds[] = {TOP_LEVEL, OPEN, WORD, CLOSE};
-    uint32_t kind = mix == DEEP && !one_in(8) ? OPEN : mix == FOLDS ? folds[at / 20 % 4] : under(KINDS);
+    static const uint32_t folds[] = {TOP_LEVEL, OPEN, WORD, CLOSE}, comments[] = {LINE_COMMENT, TYPE_SPECIFIER, WORD, TOP_LEVEL, OPEN};
+    uint32_t kind = mix == DEEP && !one_in(8) ? OPEN : mix == FOLDS ? folds[at / 20 % 4] : mix == COMMENTS && !one_in(6) ? comments[under(5)] : under(KINDS);
     uint32_t class = under(4), create = one_in(mix == FOLDS ? 2 : 8);
     put(sheet, at, kind | class << 5 | create << 7);
     put_place(sheet, at + 4, b);
@@ -100,7 +104,7 @@ static void put_token(uint8_t *sheet, size_t at, const struct bodies *b, enum mi
 static void put_head(uint8_t *sheet, const uint32_t counts[4], uint32_t mode, enum mix mix)
 {
     uint32_t block = mix == ANY ? under(60) : mix == FOLDS || one_in(2) ? 0 : 40000;
-    uint32_t options[] = {one_in(8) ? under(257) : under(9), under(3), one_in(4), one_in(20) ? under(256) : under(4), block};
+    uint32_t options[] = {one_in(8) ? under(257) : under(9), under(3), one_in(3) ? 0 : under(3), one_in(20) ? under(256) : under(4), block};
     for (size_t i = 0; i < 4; i++)
         put(sheet, 4 * i, counts[i]);
     put(sheet, 4 * TWIGMANTLE_HEAD_MODE, mode);
@@ -113,7 +117,7 @@ static void put_head(uint8_t *sheet, const uint32_t counts[4], uint32_t mode, en
 /* A sheet that checks 1 to 4 pass, the counts at their bounds for one in 500; its length. */
 static inline size_t random_sheet(uint8_t *sheet)
 {
-    enum mix mix = one_in(20) ? DEEP : one_in(12) ? FOLDS : ANY;
+    enum mix mix = one_in(20) ? DEEP : one_in(12) ? FOLDS : one_in(8) ? COMMENTS : ANY;
     int full = one_in(500);
     uint32_t mode = full ? 1 + under(2) : under(3);
     uint32_t n = full ? (uint32_t)TWIGMANTLE_MOST_TOKENS : mix == DEEP ? 100 + under(200) : under(one_in(20) ? 300 : 24);

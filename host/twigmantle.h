@@ -13,7 +13,7 @@
 #include <stdint.h>
 
 /* The version of the sheet's form. It goes up when a number below changes, or when another set of sheets passes refusals 1 to 4. A sheet does not carry it. */
-#define TWIGMANTLE_FORM 1
+#define TWIGMANTLE_FORM 2 /* 2: word TWIGMANTLE_HEAD_INLINE may be TWIGMANTLE_INLINE_COMMENTS */
 
 #ifdef __cplusplus
 extern "C" {
@@ -105,7 +105,11 @@ enum twigmantle_indent { TWIGMANTLE_INDENT_TABS = 256 };
 
 enum twigmantle_case { TWIGMANTLE_CASE_AS_IS = 0, TWIGMANTLE_CASE_UPPER = 1, TWIGMANTLE_CASE_LOWER = 2 };
 
-enum twigmantle_inline { TWIGMANTLE_INLINE_OFF = 0, TWIGMANTLE_INLINE_ON = 1 };
+enum twigmantle_inline {
+    TWIGMANTLE_INLINE_OFF = 0,
+    TWIGMANTLE_INLINE_ON = 1,      /* everything on one line: what follows a line comment too, and is then part of the comment */
+    TWIGMANTLE_INLINE_COMMENTS = 2 /* as ON, but each line comment ends its line: a text to be run */
+};
 
 #define TWIGMANTLE_LIMIT_NONE 0xffffffffu /* no limit given, in words 10 and 11 alone */
 

@@ -4,37 +4,44 @@ use std::fs;
 
 use crate::check::{peak, room};
 use crate::model::{self, Answer, Refusal};
-use crate::random::{self, Dice};
+use crate::oracle;
+use crate::random::{self, Dice, Made};
 use crate::starred;
 use crate::table::{self, Row};
 
 /// A sheet longer than this is left out, so that the list stays small.
 const LONGEST: usize = 6000;
 
-/// Document 01's sheets, then N small ones and N of any make.
+/// Document 01's sheets, then N small ones and N of any make, with the Rust's answers. Last, all that
+/// have word 7 at 2, with the model's: those of `starred`, N small ones, and those among N of any make.
 pub fn run(n: u64, seed: u64, file: &str) -> bool {
-    let mut out = Vec::new();
-    let mut count = 0;
     let small = (0..n).map(|turn| table::row(&mut Dice::new(seed, turn)));
-    let any = (0..n).filter_map(|turn| any_make(&mut Dice::new(seed + 1, turn)));
-    for row in starred_rows().into_iter().chain(small).chain(any) {
-        put(&mut out, &row);
-        count += 1;
-    }
-    println!("{count} sheets, {} bytes", out.len());
+    let any = (0..n).filter_map(|turn| any_make(&mut Dice::new(seed + 1, turn), random::make));
+    let two = (0..n).map(|turn| table::row_at_two(&mut Dice::new(seed + 2, turn)));
+    let more = (0..n).filter_map(|turn| any_make(&mut Dice::new(seed + 3, turn), random::make_any));
+    let more = more.filter(|row| !oracle::judges(&row.bytes));
+    let all = judged(starred::sheets()).chain(small).chain(any).chain(two).chain(more);
+    let (rusts, modelled): (Vec<Row>, Vec<Row>) = all.partition(|row| oracle::judges(&row.bytes));
+    let mut out = Vec::new();
+    rusts.iter().chain(&modelled).for_each(|row| put(&mut out, row));
+    let (first, bytes) = (rusts.len(), out.len());
+    println!(
+        "{} sheets, {bytes} bytes: {first}, then {} with word 7 at 2, as the model answers",
+        first + modelled.len(),
+        modelled.len()
+    );
     fs::write(file, out).is_ok()
 }
 
-fn starred_rows() -> Vec<Row> {
-    let judged = |(bytes, room): (Vec<u8>, usize)| {
+fn judged(sheets: Vec<(Vec<u8>, usize)>) -> impl Iterator<Item = Row> {
+    sheets.into_iter().map(|(bytes, room)| {
         let answer = table::judged(&bytes, room);
         Row { bytes, room, answer }
-    };
-    starred::sheets().into_iter().map(judged).collect()
+    })
 }
 
-fn any_make(dice: &mut Dice) -> Option<Row> {
-    let bytes = random::make(dice).bytes;
+fn any_make(dice: &mut Dice, make: fn(&mut Dice) -> Made) -> Option<Row> {
+    let bytes = make(dice).bytes;
     let need = peak(&model::trial(&bytes, model::AMPLE).heights);
     let room = room(dice, need);
     let answer = table::judged(&bytes, room);

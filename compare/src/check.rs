@@ -6,7 +6,7 @@ use std::fs;
 use crate::model::{self, Answer, Refusal, Trial};
 use crate::oracle::{self, Panic, Read};
 use crate::random::{self, Dice, Made, noise, white};
-use crate::sheet::{NAMES, Sheet};
+use crate::sheet::{INLINE_ON, NAMES, Reader, Sheet};
 use crate::watched;
 use crate::{show, watched::Height};
 
@@ -118,7 +118,15 @@ fn compare(made: &Made, ample: &Trial) -> Result<&'static str, String> {
     if made.sheet.is_some() && made.sheet != Sheet::decode(&made.bytes) {
         return Err("decoded otherwise than encoded".into());
     }
-    let read = oracle::read(&made.bytes).ok_or("cannot be read")?;
+    if oracle::judges(&made.bytes) {
+        against_rust(&made.bytes, ample)
+    } else {
+        beside_one(&made.bytes, ample)
+    }
+}
+
+fn against_rust(bytes: &[u8], ample: &Trial) -> Result<&'static str, String> {
+    let read = oracle::read(bytes).ok_or("cannot be read")?;
     match &ample.answer {
         Answer::Laid { text, lines, width } => {
             let rust = read.text().map_err(|panic| format!("Rust: {panic:?}"))?;
@@ -135,6 +143,32 @@ fn compare(made: &Made, ample: &Trial) -> Result<&'static str, String> {
         }
         Answer::Refused(Refusal { place, .. }) => before_refusal(&read, *place, &ample.heights),
     }
+}
+
+/// Word 7 at 2 is not the Rust's, but at 1 the same sheet is. Only white bytes may differ, and none
+/// where no line comment is laid out; refusals do not, at an ample buffer.
+fn beside_one(bytes: &[u8], two: &Trial) -> Result<&'static str, String> {
+    let mut bytes = bytes.to_vec();
+    bytes[28..32].copy_from_slice(&INLINE_ON.to_le_bytes());
+    let one = model::trial(&bytes, model::AMPLE);
+    against_rust(&bytes, &one).map_err(|said| format!("word 7 at 1 for 2: {said}"))?;
+    let told = |how: &'static str, same: bool| {
+        same.then_some(how).ok_or(format!("at 1 it is {}", show::answer(&one.answer)))
+    };
+    if !two.handlers.contains(&"line comment") {
+        let same = two.answer == one.answer && two.heights == one.heights;
+        return told("the Rust at 1 for 2: all", same);
+    }
+    match (&one.answer, &two.answer) {
+        (Answer::Laid { text: one, .. }, Answer::Laid { text: two, .. }) => {
+            told("the Rust at 1 for 2: all but white", solid(one).eq(solid(two)))
+        }
+        (one, two) => told("the Rust at 1 for 2: refusal", one == two),
+    }
+}
+
+fn solid(text: &[u8]) -> impl Iterator<Item = &u8> {
+    text.iter().filter(|&byte| !white::is_white(std::slice::from_ref(byte)))
 }
 
 /// Lines and width read off the Rust's text by other means than the model's.
@@ -249,6 +283,7 @@ fn every_length(tally: &mut Tally, made: &Made) -> Result<(), String> {
 }
 
 fn note(tally: &mut Tally, made: &Made, ample: &Trial, answer: &Answer, how: &'static str) {
+    tally.add("0 word 7", word_7(&made.bytes, &ample.answer));
     tally.add("1 makers", made.maker);
     tally.add("2 compared with the Rust", how);
     tally.add("3 answers at an ample buffer", outcome(&ample.answer));
@@ -266,6 +301,14 @@ fn note(tally: &mut Tally, made: &Made, ample: &Trial, answer: &Answer, how: &'s
                 _ => {}
             }
         }
+    }
+}
+
+/// Its value, where the sheet passes checks 1 to 4.
+fn word_7(bytes: &[u8], ample: &Answer) -> String {
+    match (ample, Reader::new(bytes)) {
+        (Answer::Refused(Refusal { number: 1..=4, .. }), _) | (_, None) => "refused".into(),
+        (_, Some(reader)) => format!("at {}", reader.head.options.inline),
     }
 }
 

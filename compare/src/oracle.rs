@@ -91,7 +91,13 @@ fn caught<T>(run: impl FnOnce() -> T) -> Result<T, Panic> {
     })
 }
 
-/// Only for sheets that pass checks 1 to 4; any other may give `None` or nonsense.
+/// Whether the Rust knows this sheet's options: word 7 at 2 is not the Rust's.
+pub fn judges(sheet: &[u8]) -> bool {
+    Reader::new(sheet).is_none_or(|reader| reader.head.options.inline != sheet::INLINE_COMMENTS)
+}
+
+/// Only for sheets that pass checks 1 to 4 and have word 7 at 0 or 1; any other may give `None` or
+/// nonsense.
 pub fn read(sheet: &[u8]) -> Option<Read<'_>> {
     let mut reader = Reader::new(sheet)?;
     let Head { tokens: n, params: p, keeps: k, mode, options: words } = reader.head;
@@ -143,7 +149,7 @@ fn options(words: &sheet::Options) -> FormatOptions<'static> {
         uppercase: [None, Some(true), Some(false)][words.case as usize],
         lines_between_queries: words.lines as u8,
         ignore_case_convert: None,
-        inline: words.inline == 1,
+        inline: words.inline == sheet::INLINE_ON,
         max_inline_block: words.block as usize,
         max_inline_arguments: limit(words.arguments),
         max_inline_top_level: limit(words.top_level),

@@ -1,6 +1,7 @@
 //! Random sheets from a seed: the same seed gives the same sheets.
 
 mod brim;
+mod comments;
 mod damage;
 pub mod noise;
 pub mod query;
@@ -59,6 +60,26 @@ pub enum Size {
     Table,
 }
 
+/// What word 7 may be.
+#[derive(Clone, Copy, PartialEq, Eq)]
+pub enum Inline {
+    /// 0 and 1.
+    Rusts,
+    Any,
+    /// 2 alone.
+    Comments,
+}
+
+impl Inline {
+    fn set(self, dice: &mut Dice, options: &mut Options) {
+        match self {
+            Inline::Rusts => {}
+            Inline::Any => options.inline = dice.pick(&[0, 0, 0, 1, 2, 2]),
+            Inline::Comments => options.inline = INLINE_COMMENTS,
+        }
+    }
+}
+
 #[derive(Clone, Copy, PartialEq, Eq)]
 pub enum Maker {
     Soup,
@@ -75,6 +96,7 @@ pub enum Maker {
     Brim,
     White,
     Noise,
+    Comments,
 }
 
 const USUAL: [Maker; 16] = [
@@ -96,32 +118,37 @@ const USUAL: [Maker; 16] = [
     Maker::Flipped,
 ];
 
-/// Every maker: what `check` runs.
+/// Every maker, and word 7 at any value: what `check` and `list` run.
 pub fn make_any(dice: &mut Dice) -> Made {
     let maker = match dice.below(1000) {
         0..8 => Maker::Deep,
         8..20 => Maker::Brim,
         20..60 => Maker::White,
         60..90 => Maker::Noise,
-        _ => return make(dice),
+        90..240 => Maker::Comments,
+        _ => usual(dice),
     };
-    make_with(dice, maker, Size::Any)
+    make_with(dice, maker, Size::Any, Inline::Any)
 }
 
 /// The makers that the fixed list was made with: another mixture here would be another list.
 pub fn make(dice: &mut Dice) -> Made {
-    let maker = match dice.below(2000) {
+    let maker = usual(dice);
+    make_with(dice, maker, Size::Any, Inline::Rusts)
+}
+
+fn usual(dice: &mut Dice) -> Maker {
+    match dice.below(2000) {
         0..5 => Maker::Deep,
         5..15 => Maker::Long,
         15 => Maker::Bounds,
         _ => dice.pick(&USUAL),
-    };
-    make_with(dice, maker, Size::Any)
+    }
 }
 
-pub fn make_with(dice: &mut Dice, maker: Maker, size: Size) -> Made {
+pub fn make_with(dice: &mut Dice, maker: Maker, size: Size, inline: Inline) -> Made {
     match maker {
-        Maker::Bounds => return bounds(dice),
+        Maker::Bounds => return bounds(dice, inline),
         Maker::Noise => {
             let (bytes, expected) = noise::bytes(dice);
             return Made { maker: "noise", bytes, sheet: None, expected };
@@ -129,10 +156,12 @@ pub fn make_with(dice: &mut Dice, maker: Maker, size: Size) -> Made {
         _ => {}
     }
     let whole = match maker {
+        Maker::White if dice.one_in(4) => Maker::Comments,
         Maker::Damaged | Maker::Flipped | Maker::White => dice.pick(&USUAL[..13]),
         other => other,
     };
     let mut sheet = sheet(dice, whole, size);
+    inline.set(dice, &mut sheet.options);
     if maker == Maker::White {
         sheet = white::whitened(dice, sheet);
     }
@@ -166,6 +195,7 @@ fn name(maker: Maker) -> &'static str {
         Maker::Brim => "brim",
         Maker::White => "white",
         Maker::Noise => "noise",
+        Maker::Comments => "comments",
     }
 }
 
@@ -185,6 +215,7 @@ fn sheet(dice: &mut Dice, maker: Maker, size: Size) -> Sheet {
         Maker::Query => query::tokens(dice, size),
         Maker::Deep => soup::deep(dice, &mut options),
         Maker::Brim => brim::tokens(dice, &mut options),
+        Maker::Comments => comments::tokens(dice, &mut options, size),
         _ => soup::tokens(dice, count),
     };
     let most = if size == Size::Table { 3 } else { 5 };
@@ -195,7 +226,7 @@ fn sheet(dice: &mut Dice, maker: Maker, size: Size) -> Sheet {
 }
 
 /// Every count at its bound, or one of them one over.
-fn bounds(dice: &mut Dice) -> Made {
+fn bounds(dice: &mut Dice, inline: Inline) -> Made {
     let over = dice.below(8);
     let mut counts = [1024, 256, 64, 32768];
     if let Some(count) = counts.get_mut(over) {
@@ -206,7 +237,8 @@ fn bounds(dice: &mut Dice) -> Made {
     let entry = |i: usize| if mode == MODE_NAMED { format!("n{i}") } else { String::new() };
     let params = (0..p).map(|i| Param { name: entry(i).into(), value: i.to_string().into() });
     let keep = (0..k).map(|i| tokens[i].value.clone()).collect();
-    let options = Options { indent: dice.below(3) as u32, ..soup::options(dice, Size::Table) };
+    let mut options = Options { indent: dice.below(3) as u32, ..soup::options(dice, Size::Table) };
+    inline.set(dice, &mut options);
     let sheet = Sheet { options, mode, params: params.collect(), keep, tokens };
     let mut bytes = encode(dice, &sheet);
     let records = 48 + 20 * n + 16 * p + 8 * k;

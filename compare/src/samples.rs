@@ -84,6 +84,14 @@ const SWITCH: &[Piece] = &[
 ];
 
 #[rustfmt::skip]
+const CONSOLE: &[Piece] = &[
+    (T, "SELECT"), BLANK, (W, "note"), (O, ","), BLANK, (W, "taken"), BLANK, (LINE_COMMENT, "-- in station time"), FEED,
+    (T, "FROM"), BLANK, (W, "notes"), FEED,
+    (T, "WHERE"), BLANK, (W, "call_id"), BLANK, (O, "="), BLANK, (P, "?"), FEED,
+    (N, "AND"), BLANK, (W, "line"), BLANK, (O, "="), BLANK, (P, "?"),
+];
+
+#[rustfmt::skip]
 const ACCENT: &[Piece] = &[
     (T, "SELECT"), BLANK, (STRING, "'Zoë'"), BLANK, (R, "AS"), BLANK, (W, "caller"),
 ];
@@ -92,6 +100,8 @@ const ACCENT: &[Piece] = &[
 const SHORT: &[Piece] = &[
     (T, "SELECT"), BLANK, (W, "note"), BLANK, (T, "FROM"), BLANK, (W, "notes"),
 ];
+
+const LIST: &[(&str, &str)] = &[("", "48213"), ("", "7")];
 
 /// As the source's lexer reads a placeholder's key.
 fn key(value: &str) -> Key {
@@ -136,20 +146,25 @@ fn samples() -> Vec<Sample> {
         ),
     ];
     samples.extend(placeholders());
+    samples.push(sample(
+        "console",
+        "For the console: one line, but a line comment ends its own, so all of it runs. With `inline` 1 \
+         nothing after the `--` would run.",
+        with(filled(of(CONSOLE), MODE_INDEXED, LIST), |o| o.inline = INLINE_COMMENTS),
+    ));
     samples.extend(refused());
     samples
 }
 
 fn placeholders() -> [Sample; 4] {
     let sample = |name, about, sheet| Sample { name, about, sheet };
-    let list = &[("", "48213"), ("", "7")];
     let names = &[("call", "48213"), ("line", "7")];
     let named = with(filled(of(NAMED), MODE_NAMED, names), |o| o.case = 1);
     [
         sample(
             "indexed",
             "Each `?` takes the next entry; one that finds none stays as it is.",
-            filled(of(INDEXED), MODE_INDEXED, list),
+            filled(of(INDEXED), MODE_INDEXED, LIST),
         ),
         sample(
             "named",
@@ -159,13 +174,13 @@ fn placeholders() -> [Sample; 4] {
         sample(
             "numbered",
             "By number: `$1` counts from one and `?0` from nought, so both are the first entry.",
-            filled(of(NUMBERED), MODE_INDEXED, list),
+            filled(of(NUMBERED), MODE_INDEXED, LIST),
         ),
         sample(
             "switch",
             "Between the two comments everything stays as it was, placeholders too, and no entry is \
              taken. Each comment is dropped, and so is the token after it, here a line feed.",
-            filled(of(SWITCH), MODE_INDEXED, list),
+            filled(of(SWITCH), MODE_INDEXED, LIST),
         ),
     ]
 }
@@ -214,6 +229,7 @@ fn settings(sheet: &Sheet) -> String {
         [
             ("indent", o.indent),
             ("case", o.case),
+            ("inline", o.inline),
             ("max_inline_block", o.block),
             ("max_inline_top_level", o.top_level),
         ]
@@ -249,7 +265,7 @@ The program ends with 0 on a refusal too: the first word says which it is. On an
 itself.
 
 Made by `compare/target/release/compare samples samples` (`docs/comparison.md`) from `compare/src/samples.rs`, where the tokens stand with their kinds. The
-texts are the Rust's own, the refusals the model's.
+texts are the Rust's own, but for `inline` 2, which the Rust has not; that one and the refusals are the model's.
 ";
 
 fn section(sample: &Sample, text: &str) -> String {

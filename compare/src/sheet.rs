@@ -45,6 +45,11 @@ pub const MODE_NONE: u32 = 0;
 pub const MODE_INDEXED: u32 = 1;
 pub const MODE_NAMED: u32 = 2;
 
+/// Head word 7. At the last one lines end after line comments alone, and the Rust has no such value.
+pub const INLINE_OFF: u32 = 0;
+pub const INLINE_ON: u32 = 1;
+pub const INLINE_COMMENTS: u32 = 2;
+
 /// Head words 5 to 11.
 #[derive(Debug, Clone, Copy, PartialEq, Eq)]
 pub struct Options {

@@ -25,6 +25,9 @@ pub fn rust(bytes: &[u8]) -> String {
     if refused_before_layout(bytes) {
         return "not run".into();
     }
+    if !oracle::judges(bytes) {
+        return "not run: word 7 is 2, which the Rust has not; the model judges".into();
+    }
     match oracle::read(bytes).map(|read| read.text()) {
         None => "not run".into(),
         Some(Ok(text)) => format!("{} bytes {}", text.len(), quoted(&text)),

@@ -5,7 +5,7 @@ use std::io::{self, BufWriter, Write};
 use crate::check::{measured, peak, room};
 use crate::model::{self, Answer, Refusal};
 use crate::oracle;
-use crate::random::{self, Dice, Made, Maker, Size};
+use crate::random::{self, Dice, Inline, Made, Maker, Size};
 use crate::show::hex;
 
 const CLAIM: usize = 25;
@@ -18,10 +18,10 @@ pub struct Row {
     pub answer: Answer,
 }
 
-/// Texts come from the Rust itself; refusals from the model.
+/// Texts come from the Rust itself, with word 7 at 2 from the model; refusals from the model.
 pub fn judged(bytes: &[u8], room: usize) -> Answer {
     let answer = model::answer(bytes, room);
-    if let Answer::Refused(_) = answer {
+    if matches!(answer, Answer::Refused(_)) || !oracle::judges(bytes) {
         return answer;
     }
     let read = oracle::read(bytes).expect("laid out, so it passed checks 1 to 4");
@@ -34,7 +34,7 @@ pub fn list(n: u64, seed: u64) -> bool {
     let mut out = BufWriter::new(io::stdout().lock());
     let done = (0..n).try_for_each(|turn| {
         let mut dice = Dice::new(seed, turn);
-        let Made { bytes, .. } = random::make(&mut dice);
+        let Made { bytes, .. } = random::make_any(&mut dice);
         let need = peak(&model::trial(&bytes, model::AMPLE).heights);
         let room = room(&mut dice, need);
         let answer = match judged(&bytes, room) {
@@ -73,16 +73,29 @@ pub fn row(dice: &mut Dice) -> Row {
     let shares = MIXTURE.iter().flat_map(|&(wanted, share)| vec![wanted; share]);
     let shares: Vec<Wanted> = shares.collect();
     let wanted = dice.pick(&shares);
+    until_some(|| attempt(dice, wanted, Inline::Rusts))
+}
+
+/// Word 7 at 2, mostly around line comments. Refusal 8 is never given there.
+pub fn row_at_two(dice: &mut Dice) -> Row {
+    use Wanted::*;
+    let wanted = dice.pick(&[Text, Text, Text, Text, Text, Text, Full, Full, Nought, Damaged]);
+    until_some(|| attempt(dice, wanted, Inline::Comments))
+}
+
+fn until_some<T>(mut attempt: impl FnMut() -> Option<T>) -> T {
     loop {
-        if let Some(row) = attempt(dice, wanted) {
-            return row;
+        if let Some(made) = attempt() {
+            return made;
         }
     }
 }
 
-fn attempt(dice: &mut Dice, wanted: Wanted) -> Option<Row> {
+fn attempt(dice: &mut Dice, wanted: Wanted, inline: Inline) -> Option<Row> {
     use Maker::*;
+    let at_two = inline == Inline::Comments;
     let maker = match wanted {
+        Wanted::Text | Wanted::Full if at_two && !dice.one_in(4) => Comments,
         Wanted::Text => {
             dice.pick(&[Soup, Soup, Brackets, Switch, Placeholders, Folds, Query, Query])
         }
@@ -91,7 +104,7 @@ fn attempt(dice: &mut Dice, wanted: Wanted) -> Option<Row> {
         Wanted::Below => Folds,
         Wanted::Damaged => dice.pick(&[Damaged, Damaged, Damaged, Flipped]),
     };
-    let Made { bytes, .. } = random::make_with(dice, maker, Size::Table);
+    let Made { bytes, .. } = random::make_with(dice, maker, Size::Table, inline);
     let need = peak(&model::trial(&bytes, model::AMPLE).heights);
     let room = match wanted {
         Wanted::Full => match dice.below(3) {
@@ -123,7 +136,8 @@ fn fits(dice: &mut Dice, answer: &Answer, wanted: Wanted) -> bool {
 
 pub fn table(n: usize, seed: u64, first: usize) -> bool {
     let mut dice = Dice::new(seed, 0);
-    let rows: Vec<Row> = (0..n).map(|_| row(&mut dice)).collect();
+    let one = |i| if i % 3 == 2 { row_at_two(&mut dice) } else { row(&mut dice) };
+    let rows: Vec<Row> = (0..n).map(one).collect();
     let mut out = BufWriter::new(io::stdout().lock());
     let done = opening(&mut out, n, seed).and_then(|()| {
         let mut claims = (first..).zip(rows.chunks(CLAIM));
@@ -135,7 +149,7 @@ pub fn table(n: usize, seed: u64, first: usize) -> bool {
 fn opening(out: &mut impl Write, n: usize, seed: u64) -> io::Result<()> {
     writeln!(
         out,
-        "-- Random sheets with the Rust's answers: \
+        "-- Random sheets with the Rust's answers, every third at word 7 = 2 with the model's: \
          {n} rows, seed {seed}. Made by compare/; not kept.
 use mathlib.Core.Path.{{_≡_, refl}}
 use mathlib.Core.List.{{List, [], _∷_, map}}

@@ -58,7 +58,7 @@ fn bad_word(sheet: &[u8], head: &Head) -> Option<usize> {
     if mode > 2 || mode == 0 && head.p > 0 {
         return Some(16);
     }
-    for (at, most) in [(20, 256), (24, 2), (28, 1), (32, 255)] {
+    for (at, most) in [(20, 256), (24, 2), (28, 2), (32, 255)] {
         if word(sheet, at) > most {
             return Some(at);
         }

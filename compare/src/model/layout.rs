@@ -192,11 +192,11 @@ impl<'s> Layout<'s> {
             self.new_line()?;
         } else if self.back(2).is_some_and(|t| t.value == b",") {
             self.handlers.push("- comment after comma");
-            self.text.cut_white();
+            self.cut_white("- held from a comma");
             self.text.append(b"  ")?;
         }
         self.text.append(token.value)?;
-        self.new_line()
+        self.close_line_comment()
     }
 
     fn block_comment(&mut self, token: Token) -> Step {
@@ -218,8 +218,30 @@ impl<'s> Layout<'s> {
         self.new_line()
     }
 
+    /// The new line after a line comment. Inline at 2: a line feed, with no indent, that only the
+    /// trim at the end may cut, added or found there.
+    fn close_line_comment(&mut self) -> Step {
+        if self.options.inline != INLINE_COMMENTS {
+            return self.new_line();
+        }
+        self.text.cut_blanks();
+        if self.text.ends_with_feed() {
+            self.handlers.push("- closed at 2, a feed found");
+        } else {
+            self.handlers.push("- closed at 2, a feed added");
+            self.text.append(b"\n")?;
+        }
+        self.text.hold();
+        Ok(())
+    }
+
+    fn cut_white(&mut self, held: &'static str) {
+        let kept = self.text.cut_white();
+        self.note_if(kept, held);
+    }
+
     fn type_specifier(&mut self, token: Token) -> Step {
-        self.text.cut_white();
+        self.cut_white("- held from a type specifier");
         self.text.append(token.value)?;
         let next = self.tokens[self.at + 1..].iter().find(|t| t.kind != WHITESPACE);
         if next.is_some_and(|t| [RESERVED, NEWLINE, NEWLINE_AFTER].contains(&t.kind)) {
@@ -404,7 +426,7 @@ impl<'s> Layout<'s> {
         self.before_bracket(token)?;
         if folds {
             self.handlers.push("- folded block");
-            self.text.cut_white();
+            self.cut_white("- held from a fold");
             self.text.append(b" ")?;
         }
         self.push(if folds { Entry::Folded } else { Entry::Block })?;
@@ -466,7 +488,7 @@ impl<'s> Layout<'s> {
                 self.text.append(b" ")?;
             }
         } else {
-            let below = folded && self.options.inline == 0 && self.unfolded() == 0;
+            let below = folded && self.options.inline == INLINE_OFF && self.unfolded() == 0;
             self.refuse_if(below, 8)?;
             self.new_line_at(self.unfolded().saturating_sub(usize::from(folded)))?;
         }
@@ -585,7 +607,7 @@ impl<'s> Layout<'s> {
 
     fn new_line_at(&mut self, level: usize) -> Step {
         self.text.cut_blanks();
-        if self.options.inline == 1 {
+        if self.options.inline != INLINE_OFF {
             return self.text.append(b" ");
         }
         if !self.text.ends_with_feed() {

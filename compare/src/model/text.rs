@@ -7,6 +7,8 @@ pub struct Text {
     pub bytes: Vec<u8>,
     room: usize,
     token: usize,
+    /// No cut goes below this length; the trim at the end alone does.
+    floor: usize,
     pub heights: Vec<Height>,
 }
 
@@ -20,7 +22,7 @@ pub fn is_blank(byte: u8) -> bool {
 
 impl Text {
     pub fn new(room: usize) -> Self {
-        Text { bytes: Vec::new(), room, token: 0, heights: Vec::new() }
+        Text { bytes: Vec::new(), room, token: 0, floor: 0, heights: Vec::new() }
     }
 
     /// Appends from here on belong to this token.
@@ -43,8 +45,15 @@ impl Text {
         self.cut(is_blank);
     }
 
-    pub fn cut_white(&mut self) {
+    /// Says if the floor kept a byte that this would have cut.
+    pub fn cut_white(&mut self) -> bool {
         self.cut(is_white);
+        self.bytes.last().is_some_and(|&b| is_white(b))
+    }
+
+    /// All that stands here now stays.
+    pub fn hold(&mut self) {
+        self.floor = self.bytes.len();
     }
 
     pub fn ends_with_feed(&self) -> bool {
@@ -61,7 +70,7 @@ impl Text {
     }
 
     fn cut(&mut self, goes: fn(u8) -> bool) {
-        while self.bytes.last().is_some_and(|&b| goes(b)) {
+        while self.bytes.len() > self.floor && self.bytes.last().is_some_and(|&b| goes(b)) {
             self.bytes.pop();
         }
         self.note();

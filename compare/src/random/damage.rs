@@ -92,7 +92,7 @@ fn head_offences(dice: &mut Dice, p: usize) -> Vec<Offence> {
     if p > 0 {
         offences.push(word_offence(16, 0));
     }
-    for (at, least) in [(20, 257), (24, 3), (28, 2), (32, 256)] {
+    for (at, least) in [(20, 257), (24, 3), (28, 3), (32, 256)] {
         offences.push(word_offence(at, least + past));
     }
     offences

@@ -34,7 +34,8 @@ fn fit(dice: &mut Dice, bytes: &mut [u8]) {
         counts[1] = 0;
     }
     let [n, p, k] = counts;
-    let mut head = [n, p, k, rest as u32, mode, 2, 1, 0, 1, 50, 9, 9];
+    let inline = dice.below(3) as u32;
+    let mut head = [n, p, k, rest as u32, mode, 2, 1, inline, 1, 50, 9, 9];
     if dice.one_in(4) {
         head[4 + dice.below(8)] = dice.pick(&[0, 1, 2, 3, 256, 257, u32::MAX]);
     }

@@ -13,7 +13,7 @@ use Rattle.rules.specs.declared.Case.{Case}
 use Rattle.rules.specs.declared.FormatOptions.{FormatOptions}
 use Rattle.rules.specs.Bytes.{bytes as text}
 use Rattle.rules.specs.Sheet.{envOf}
-use Rattle.rules.specs.Text.{Text, inCase, isLower}
+use Rattle.rules.specs.Text.{Text, inCase, isLower, isOn}
 use Rattle.rules.specs.State.{State}
 use Rattle.rules.specs.Indentation.{Indentation, Closed, indentLevel, decreaseBlockLevel}
 use Rattle.rules.specs.InlineBlock.{isActive}
@@ -44,13 +44,13 @@ module _ (o : FormatOptions) (folded : Bool) (n : Indentation ℕ) where
   unfolding endsUnder
   by-unfolded h = rw (not-true folded h)
 
-  pub by-inline-on : not folded ≡ false → o .inline ≡ true → false ≡ endsUnder o folded n
+  pub by-inline-on : (on : Bool) → not folded ≡ false → on ≡ isOn (o .inline) → on ≡ true → false ≡ endsUnder o folded n
   unfolding endsUnder
-  by-inline-on h e = rw (not-false folded h, e)
+  by-inline-on on h e t = rw (not-false folded h, ← e, t)
 
-  pub by-level : (level : ℕ) → not folded ≡ false → o .inline ≡ false → level ≡ indentLevel false n → eqb level 0 ≡ endsUnder o folded n
+  pub by-level : (level : ℕ) (on : Bool) → not folded ≡ false → on ≡ isOn (o .inline) → on ≡ false → level ≡ indentLevel false n → eqb level 0 ≡ endsUnder o folded n
   unfolding endsUnder indentLevel
-  by-level level h e l = rw (not-false folded h, e, l, sub-zero)
+  by-level level on h e t l = rw (not-false folded h, ← e, t, l, sub-zero)
 
 -- ---- the text
 

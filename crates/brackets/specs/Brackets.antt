@@ -8,7 +8,7 @@ use Rattle.rules.specs.declared.FormatOptions.{FormatOptions}
 use Rattle.rules.specs.declared.TokenKind.the-variants.{ReservedTopLevel}
 use Rattle.rules.specs.Base.{choose, holds, isSome, full}
 use Rattle.rules.specs.Bytes.{bytes}
-use Rattle.rules.specs.Text.{Text, inCase, isLower}
+use Rattle.rules.specs.Text.{Text, inCase, isLower, isOn}
 use Rattle.rules.specs.Indentation.{Indentation, unfolded, previousTopLevelReserved}
 use Rattle.rules.specs.Formatter.{kindIs, previousNonWhitespaceToken, foldsIn, cutsBefore, blankBetween}
 use Rattle.keeps.specs.CaseOf.{caseOf}
@@ -49,7 +49,7 @@ openingIn s x i n blocks inlined folded level =
 
 -- refusal 8: a folded block ends where no entry is left that counts
 unfoldable pub endsUnder : {W : Type 0} → FormatOptions → Bool → Indentation W → Bool
-endsUnder o folded n = folded && (not (o .inline) && eqb (unfolded (n .indentTypes)) 0)
+endsUnder o folded n = folded && (not (isOn (o .inline)) && eqb (unfolded (n .indentTypes)) 0)
 
 -- what the bracket does to the text, v being its value in its case
 unfoldable pub closingOf : ℕ → FormatOptions → Bool → Bool → ℕ → List ℕ → Text → Text

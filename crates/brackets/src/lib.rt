@@ -24,6 +24,7 @@ use state::Context;
 use state::State;
 use state::value_of;
 use text::Text;
+use text::is_on;
 
 // ---- an opening bracket
 
@@ -170,7 +171,8 @@ fn ends_under(o: FormatOptions, folded: bool, left: Indentation) -> bool
     if !folded {
         return false;
     }
-    if o.inline {
+    let inline = o.inline;
+    if is_on(inline) {
         return false;
     }
     left.indent_level(false) == 0

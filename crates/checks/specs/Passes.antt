@@ -90,11 +90,11 @@ mode-most false m p e h = leb-true m 2 h
 
 module _ (s : List ℕ) where
   module _ (h : headWords s ≡ Nowhere) where
-    head-holds : (((modeFits (wordAt s 16) (wordAt s 4) ≡ true) × (leb (wordAt s 20) 256 ≡ true)) × ((leb (wordAt s 24) 2 ≡ true) × (leb (wordAt s 28) 1 ≡ true))) × (leb (wordAt s 32) 255 ≡ true)
+    head-holds : (((modeFits (wordAt s 16) (wordAt s 4) ≡ true) × (leb (wordAt s 20) 256 ≡ true)) × ((leb (wordAt s 24) 2 ≡ true) × (leb (wordAt s 28) 2 ≡ true))) × (leb (wordAt s 32) 255 ≡ true)
     unfolding headWords
     head-holds =
         let casing = leb (wordAt s 24) 2 in
-        let inline = leb (wordAt s 28) 1 in
+        let inline = leb (wordAt s 28) 2 in
         let lines = leb (wordAt s 32) 255 in
         let one =
         both-hold (modeFits (wordAt s 16) (wordAt s 4)) (leb (wordAt s 20) 256) 16 20

@@ -37,7 +37,7 @@ use Rattle.formatter.specs.Run.{kindIn, answerIn, Begun, Stepped}
 
 -- ---- the first state
 
-pub by-begun : (cap : ℕ) (q : List ℕ) (t : CodeText) (i : Stacks) (b : InlineBlock) → Laid cap (fits []) t q → stacks.Stands noIndentation i → block.Stands [] b
+pub by-begun : (cap : ℕ) (q : List ℕ) (t : CodeText) (i : Stacks) (b : InlineBlock) → Laid cap (fits 0 []) t q → stacks.Stands noIndentation i → block.Stands [] b
     → Begun (record { text = t; indentation = i; «inline_block» = b; «block_level» = 0; index = 0 }) cap q
 unfolding stateOf start codeOf
 by-begun cap q t i b p si sb =

@@ -43,7 +43,7 @@ pub fn head_words(s: &[u8]) -> Offence
     let mode = mode_fits(word_at(s, 16), word_at(s, 4));
     let indent = at_most(word_at(s, 20), 256);
     let casing = at_most(word_at(s, 24), 2);
-    let inline = at_most(word_at(s, 28), 1);
+    let inline = at_most(word_at(s, 28), 2);
     let lines = at_most(word_at(s, 32), 255);
     let o = demand(inline, 28, demand(lines, 32, Offence::Nowhere));
     demand(mode, 16, demand(indent, 20, demand(casing, 24, o)))

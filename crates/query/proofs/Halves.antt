@@ -13,11 +13,11 @@ use Rattle.rules.specs.Base.{if_then_else_, _▹_, holds, isSome, choose, when,
 use Rattle.rules.specs.Bytes.{bytes}
 use Rattle.rules.specs.Tokens.{Here}
 use Rattle.rules.specs.Sheet.{Env}
-use Rattle.rules.specs.Text.{Text, append, cutBlanks, isLower, equalizeWhitespace}
+use Rattle.rules.specs.Text.{Text, append, cutBlanks, isLower, equalizeWhitespace, isOn}
 use Rattle.rules.specs.Indentation.{Indentation, Closed, noIndentation, indentLevel, unfolded, increaseBlockLevel, decreaseTopLevel, decreaseBlockLevel, setPreviousReserved, setPreviousTopLevel, previousTopLevelReserved, span, increaseTopLevel as increaseTop}
 use Rattle.rules.specs.InlineBlock.{isActive, beginsInline, beginIfPossible}
 use Rattle.rules.specs.Params.{get, advances, offends}
-use Rattle.rules.specs.State.{State, onText, onIndentation, onInlineBlock, onBlockLevel, onIndex, refuseIf, pushStr, push, trimSpacesEnd, trimAllSpacesEnd, getIndent, addNewLineInner, addNewLine, increaseTopLevel, oneBlank as oneBlankS}
+use Rattle.rules.specs.State.{State, onText, onIndentation, onInlineBlock, onBlockLevel, onIndex, refuseIf, pushStr, push, trimSpacesEnd, trimAllSpacesEnd, getIndent, addNewLineInner, addNewLine, closeLineComment, increaseTopLevel, oneBlank as oneBlankS}
 use Rattle.rules.specs.Formatter as rule
 use Rattle.query.specs.Query
 
@@ -48,11 +48,11 @@ halves w i s = record { text = w; indentation = i; inlineBlock = s .inlineBlock;
 
 module _ (e : Env) (h : Here) (s : State) where
   pub line-comment : rule.formatLineComment e h s ≡ onText (Query.lineComment (e .room) (e .options) (levelOf s) (rule.afterLineFeed h && rule.whiteThenNoOperator h) (rule.twoAfterComma h) (h .token .value)) s
-  unfolding rule.formatLineComment Query.lineComment Query.lineAt when choose Query.afterComma onText pushStr trimAllSpacesEnd addNewLine addNewLineInner getIndent
+  unfolding rule.formatLineComment Query.lineComment Query.lineAt Query.closingAt when choose Query.afterComma onText pushStr trimAllSpacesEnd addNewLine addNewLineInner closeLineComment getIndent
   line-comment = go (rule.afterLineFeed h && rule.whiteThenNoOperator h) (rule.twoAfterComma h)
     where
       go : (b c : Bool)
-          → (s ▹ choose b (addNewLine e) (when c (λ r. r ▹ trimAllSpacesEnd ▹ pushStr e (bytes "  "))) ▹ pushStr e (h .token .value) ▹ addNewLine e)
+          → (s ▹ choose b (addNewLine e) (when c (λ r. r ▹ trimAllSpacesEnd ▹ pushStr e (bytes "  "))) ▹ pushStr e (h .token .value) ▹ closeLineComment e)
           ≡ onText (Query.lineComment (e .room) (e .options) (levelOf s) b c (h .token .value)) s
       go true c = refl
       go false true = refl
@@ -238,11 +238,11 @@ close-inline e false v s = refl
 close-by : (e : Env) (closed : Closed (List ℕ)) (v : List ℕ) (s : State) (a k : Bool)
     → (s ▹ onBlockLevel (λ n. n - 1) ▹ onIndentation (λ i. closed .left)
     ▹ choose a (λ r. r ▹ onInlineBlock tail ▹ choose k (λ q. q ▹ oneBlankS e ▹ rule.formatWithSpaces e v) (rule.formatWithSpaceAfter e v))
-    (λ r. r ▹ refuseIf (closed .folded && (not (e .options .inline) && eqb (unfolded (closed .left .indentTypes)) 0)) 8 ▹ addNewLineInner e (closed .folded) ▹ rule.formatWithSpaces e v))
+    (λ r. r ▹ refuseIf (closed .folded && (not (isOn (e .options .inline)) && eqb (unfolded (closed .left .indentTypes)) 0)) 8 ▹ addNewLineInner e (closed .folded) ▹ rule.formatWithSpaces e v))
     ≡ record {
       text =
           choose a (Query.closingInline (e .room) k v)
-          (Query.closing (e .room) (e .options) (closed .folded && (not (e .options .inline) && eqb (unfolded (closed .left .indentTypes)) 0)) (indentLevel (closed .folded) (closed .left)) v)
+          (Query.closing (e .room) (e .options) (closed .folded && (not (isOn (e .options .inline)) && eqb (unfolded (closed .left .indentTypes)) 0)) (indentLevel (closed .folded) (closed .left)) v)
           (s .text);
       indentation = closed .left;
       inlineBlock = if a then tail (s .inlineBlock) else s .inlineBlock;
@@ -282,7 +282,7 @@ module _ (e : Env) (h : Here) (s : State) where
   pub closing : rule.formatClosingParentheses e h s
       ≡ (let closed = decreaseBlockLevel (s .indentation) in
       let active = isActive (s .inlineBlock) in
-      let eight = closed .folded && (not (e .options .inline) && eqb (unfolded (closed .left .indentTypes)) 0) in
+      let eight = closed .folded && (not (isOn (e .options .inline)) && eqb (unfolded (closed .left .indentTypes)) 0) in
       record {
         text =
             choose active (Query.closingInline (e .room) (isLower (bracketOf e h) (bytes "end")) (bracketOf e h))

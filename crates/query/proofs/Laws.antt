@@ -5,11 +5,11 @@ use mathlib.Core.List.{List}
 use Prim.Native.Nat.{ℕ}
 use lib.ListN.{length}
 use Rattle.rules.specs.declared.FormatOptions.{FormatOptions}
-use Rattle.rules.specs.Text.{Text, append}
+use Rattle.rules.specs.Text.{Text, append, indentOf, isOn, newLine, closingLine}
 use Rattle.text.specs.declared.Text.{Text as Code}
 use Rattle.text.specs.Held.{textOf, Held, Laid}
 use Rattle.text.proofs.HeldLaws.{laid-same, onward}
-use Rattle.query.specs.Query.{lineAt, blank, withSpaces}
+use Rattle.query.specs.Query.{lineAt, closingAt, blank, withSpaces}
 use Rattle.rules.specs.Base.{choose, when}
 
 -- ---- a test
@@ -31,6 +31,16 @@ module _ {cap : ℕ} {u : Code} {d : List ℕ} (b : Bool) (f g : Text → Text) 
   unfolding choose
   by-second h p = rw h p
 
+-- ---- a new line, by the option
+
+pub by-line-at : {cap : ℕ} {u : Code} {d : List ℕ} (o : FormatOptions) (level : ℕ) (w : Text) (b : Bool) → b ≡ isOn (o .inline) → Laid cap (newLine cap b (indentOf (o .indent) level) w) u d → Laid cap (lineAt cap o level w) u d
+unfolding lineAt
+by-line-at o level w b e p = rw (← e) p
+
+pub by-closing-at : {cap : ℕ} {u : Code} {d : List ℕ} (o : FormatOptions) (level : ℕ) (w : Text) → Laid cap (closingLine cap (o .inline) (indentOf (o .indent) level) w) u d → Laid cap (closingAt cap o level w) u d
+unfolding closingAt
+by-closing-at o level w p = p
+
 -- ---- a step after w, in the one buffer; the step stands first, so that a search goes from the end back to the start
 
 module _ {cap : ℕ} {w : Text} {t u : Code} {d r : List ℕ} where
@@ -42,6 +52,9 @@ module _ {cap : ℕ} {w : Text} {t u : Code} {d r : List ℕ} where
 
   pub then-line : (o : FormatOptions) (level : ℕ) → Laid (length d) (lineAt (length d) o level (textOf t d)) u r → Laid cap w t d → Laid cap (lineAt cap o level w) u r
   then-line o level q p = onward (λ n. lineAt n o level) p q
+
+  pub then-closing : (o : FormatOptions) (level : ℕ) → Laid (length d) (closingAt (length d) o level (textOf t d)) u r → Laid cap w t d → Laid cap (closingAt cap o level w) u r
+  then-closing o level q p = onward (λ n. closingAt n o level) p q
 
   module _ (b : Bool) where
     pub then-when : (f : Text → Text) → Laid (length d) (when b f (textOf t d)) u r → Laid cap w t d → Laid cap (when b f w) u r

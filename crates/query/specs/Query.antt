@@ -6,11 +6,15 @@ use lib.ListN.{replicate}
 use Rattle.rules.specs.declared.FormatOptions.{FormatOptions}
 use Rattle.rules.specs.Base.{_▹_, choose, when}
 use Rattle.rules.specs.Bytes.{bytes}
-use Rattle.rules.specs.Text.{Text, append, refuse, cutBlanks, cutWhite, indentOf, indentComment, newLine}
+use Rattle.rules.specs.Text.{Text, append, refuse, cutBlanks, cutWhite, indentOf, indentComment, isOn, newLine, closingLine}
 
 -- a new line at a level
 unfoldable pub lineAt : ℕ → FormatOptions → ℕ → Text → Text
-lineAt room o level w = newLine room (o .inline) (indentOf (o .indent) level) w
+lineAt room o level w = newLine room (isOn (o .inline)) (indentOf (o .indent) level) w
+
+-- the new line that closes a line comment
+unfoldable pub closingAt : ℕ → FormatOptions → ℕ → Text → Text
+closingAt room o level w = closingLine room (o .inline) (indentOf (o .indent) level) w
 
 unfoldable pub blank : ℕ → Text → Text
 blank room w = append room (32 ∷ []) w
@@ -26,7 +30,7 @@ afterComma room w = w ▹ cutWhite ▹ append room (bytes "  ")
 
 unfoldable pub lineComment : ℕ → FormatOptions → ℕ → Bool → Bool → List ℕ → Text → Text
 lineComment room o level breaks comma v w =
-    w ▹ choose breaks (lineAt room o level) (when comma (afterComma room)) ▹ append room v ▹ lineAt room o level
+    w ▹ choose breaks (lineAt room o level) (when comma (afterComma room)) ▹ append room v ▹ closingAt room o level
 
 unfoldable pub typeSpecifier : ℕ → List ℕ → Bool → Text → Text
 typeSpecifier room v spaced w = w ▹ cutWhite ▹ append room v ▹ when spaced (blank room)

@@ -6,10 +6,11 @@ ghost use lib.ListN.{length};
 ghost use Rattle.rules.specs.Text.{cutBlanks, append, refuse as refusedWith};
 ghost use Rattle.ascii.specs.Part.{part};
 ghost use Rattle.text.specs.Held.{textOf, Held, Laid};
-ghost use Rattle.query.specs.Query.{lineAt, blank, afterComma, lineComment, typeSpecifier, blockComment, withSpaces, withSpaceAfter, withoutSpaces, comma as commaOf, separator, placeholder};
+ghost use Rattle.query.specs.Query.{lineAt, closingAt, blank, afterComma, lineComment, typeSpecifier, blockComment, withSpaces, withSpaceAfter, withoutSpaces, comma as commaOf, separator, placeholder};
 ghost use Rattle.rules.specs.Base.{choose, when};
 use rules::FormatOptions;
 use text::Text;
+use text::is_on;
 
 // A value: where it starts in the sheet, and its length.
 pub struct Value {
@@ -25,11 +26,12 @@ pub fn refuse_if(query: &mut [u8], t: Text, b: bool, n: u32) -> Text
     ensures { λ r. ⌜ Laid (length (now (query .entry))) (when b (refusedWith n) (textOf t (now (query .entry)))) r (now (query .exit)) ⌝ }
 {
     let len = t.len;
+    let floor = t.floor;
     let fault = t.fault;
     if b {
         return text::refuse(query, t, n);
     }
-    Text { len, fault }
+    Text { len, floor, fault }
 }
 
 pub fn trim_if(query: &mut [u8], t: Text, b: bool) -> Text
@@ -37,11 +39,12 @@ pub fn trim_if(query: &mut [u8], t: Text, b: bool) -> Text
     ensures { λ r. ⌜ Laid (length (now (query .entry))) (when b cutBlanks (textOf t (now (query .entry)))) r (now (query .exit)) ⌝ }
 {
     let len = t.len;
+    let floor = t.floor;
     let fault = t.fault;
     if b {
         return text::trim_spaces_end(query, t);
     }
-    Text { len, fault }
+    Text { len, floor, fault }
 }
 
 pub fn blank_if(query: &mut [u8], t: Text, b: bool) -> Text
@@ -49,11 +52,12 @@ pub fn blank_if(query: &mut [u8], t: Text, b: bool) -> Text
     ensures { λ r. ⌜ Laid (length (now (query .entry))) (when b (blank (length (now (query .entry)))) (textOf t (now (query .entry)))) r (now (query .exit)) ⌝ }
 {
     let len = t.len;
+    let floor = t.floor;
     let fault = t.fault;
     if b {
         return text::append_byte(query, t, 32);
     }
-    Text { len, fault }
+    Text { len, floor, fault }
 }
 
 // ---- comments and type specifiers
@@ -63,12 +67,13 @@ fn after_comma_if(query: &mut [u8], t: Text, b: bool) -> Text
     ensures { λ r. ⌜ Laid (length (now (query .entry))) (when b (afterComma (length (now (query .entry)))) (textOf t (now (query .entry)))) r (now (query .exit)) ⌝ }
 {
     let len = t.len;
+    let floor = t.floor;
     let fault = t.fault;
     if b {
         let cut = text::trim_all_spaces_end(query, t);
         return text::append_repeat(query, cut, 32, 2);
     }
-    Text { len, fault }
+    Text { len, floor, fault }
 }
 
 fn before_line_comment(
@@ -106,7 +111,7 @@ pub fn format_line_comment(
 {
     let begun = before_line_comment(query, t, o, level, breaks, comma);
     let said = format_no_change(query, begun, sheet, v);
-    add_new_line(query, said, o, level)
+    close_line_comment(query, said, o, level)
 }
 
 pub fn format_type_specifier(
@@ -217,7 +222,18 @@ pub fn add_new_line(query: &mut [u8], t: Text, o: FormatOptions, level: usize) -
     ensures { λ r. ⌜ Laid (length (now (query .entry))) (lineAt (length (now (query .entry))) o level (textOf t (now (query .entry)))) r (now (query .exit)) ⌝ }
 {
     let indent = o.indent;
-    text::new_line(query, t, o.inline, indent, level)
+    let inline = o.inline;
+    text::new_line(query, t, is_on(inline), indent, level)
+}
+
+fn close_line_comment(query: &mut [u8], t: Text, o: FormatOptions, level: usize) -> Text
+    requires { ⌜ Held t (now query) ⌝ }
+    requires { ⌜ level ≤ 128 ⌝ }
+    ensures { λ r. ⌜ Laid (length (now (query .entry))) (closingAt (length (now (query .entry))) o level (textOf t (now (query .entry)))) r (now (query .exit)) ⌝ }
+{
+    let indent = o.indent;
+    let inline = o.inline;
+    text::closing_line(query, t, inline, indent, level)
 }
 
 pub fn add_new_line_if(query: &mut [u8], t: Text, b: bool, o: FormatOptions, level: usize) -> Text
@@ -226,11 +242,12 @@ pub fn add_new_line_if(query: &mut [u8], t: Text, b: bool, o: FormatOptions, lev
     ensures { λ r. ⌜ Laid (length (now (query .entry))) (when b (lineAt (length (now (query .entry))) o level) (textOf t (now (query .entry)))) r (now (query .exit)) ⌝ }
 {
     let len = t.len;
+    let floor = t.floor;
     let fault = t.fault;
     if b {
         return add_new_line(query, t, o, level);
     }
-    Text { len, fault }
+    Text { len, floor, fault }
 }
 
 pub fn format_no_change(query: &mut [u8], t: Text, sheet: &[u8], v: Value) -> Text

@@ -40,11 +40,12 @@ fn one_blank_if(query: &mut [u8], t: Text, b: bool) -> Text
     ensures { λ r. ⌜ Laid (length (now (query .entry))) (when b (oneBlank (length (now (query .entry)))) (textOf t (now (query .entry)))) r (now (query .exit)) ⌝ }
 {
     let len = t.len;
+    let floor = t.floor;
     let fault = t.fault;
     if b {
         return one_blank(query, t);
     }
-    Text { len, fault }
+    Text { len, floor, fault }
 }
 
 fn fold_if(query: &mut [u8], t: Text, b: bool) -> Text
@@ -52,12 +53,13 @@ fn fold_if(query: &mut [u8], t: Text, b: bool) -> Text
     ensures { λ r. ⌜ Laid (length (now (query .entry))) (when b (fold (length (now (query .entry)))) (textOf t (now (query .entry)))) r (now (query .exit)) ⌝ }
 {
     let len = t.len;
+    let floor = t.floor;
     let fault = t.fault;
     if b {
         let cut = trim_all_spaces_end(query, t);
         return append_byte(query, cut, 32);
     }
-    Text { len, fault }
+    Text { len, floor, fault }
 }
 
 fn before_opening(query: &mut [u8], t: Text, how: Opening) -> Text

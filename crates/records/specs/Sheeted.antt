@@ -19,7 +19,7 @@ pub record OptionWords (s : List ℕ) : Type 0 where
   pub head-in : 48 ≤ length s
   pub indent : wordAt s 20 ≤ 256
   pub casing : wordAt s 24 ≤ 2
-  pub inline : wordAt s 28 ≤ 1
+  pub inline : wordAt s 28 ≤ 2
   pub lines : wordAt s 32 ≤ 255
 
 -- the parameter mode; mode 0 has no parameters

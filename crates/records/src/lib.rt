@@ -3,12 +3,13 @@ ghost use mathlib.Core.Path.{_≡_};
 ghost use Prim.Native.Nat.{_+_, _*_, _≤_};
 ghost use lib.ListN.{length};
 ghost use Rattle.rules.specs.Words.{placeAt, countsOf, paramsAt, keepsAt, bodyAt};
-ghost use Rattle.rules.specs.Sheet.{indentFrom, caseFrom, limitFrom, optionsOf};
+ghost use Rattle.rules.specs.Sheet.{indentFrom, caseFrom, inlineFrom, limitFrom, optionsOf};
 ghost use Rattle.records.specs.Sheeted.{Few, OptionWords};
 use rules::Case;
 use rules::Counts;
 use rules::FormatOptions;
 use rules::Indent;
+use rules::Inline;
 use rules::Limit;
 use rules::Place;
 use tokens::place_at;
@@ -62,6 +63,16 @@ fn case_from(w: u32) -> Case
     }
 }
 
+fn inline_from(w: u32) -> Inline
+    ensures { λ r. ⌜ r ≡ inlineFrom w ⌝ }
+{
+    match w {
+        0 => Inline::Off,
+        1 => Inline::On,
+        _ => Inline::Comments,
+    }
+}
+
 fn limit_from(w: u32) -> Limit
     ensures { λ r. ⌜ r ≡ limitFrom w ⌝ }
 {
@@ -85,7 +96,7 @@ pub fn options_of(s: &[u8]) -> FormatOptions
 {
     let indent = indent_from(word_at(s, 20));
     let casing = case_from(word_at(s, 24));
-    let inline = word_at(s, 28) == 1;
+    let inline = inline_from(word_at(s, 28));
     let lines_between_queries = narrow(word_at(s, 32));
     let max_inline_block = word_at(s, 36);
     let max_inline_arguments = limit_from(word_at(s, 40));

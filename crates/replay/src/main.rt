@@ -146,7 +146,7 @@ fn print(same: u64, all: u64) {
     io::print_decimal(STDOUT_FILENO, same);
     io::write_all(STDOUT_FILENO, b" of ");
     io::print_decimal(STDOUT_FILENO, all);
-    io::write_all(STDOUT_FILENO, b" sheets as the Rust\n");
+    io::write_all(STDOUT_FILENO, b" sheets as the list has them\n");
 }
 
 fn replay_all(fd: i32) {

@@ -1,5 +1,6 @@
 -- Laws of lines and width, and of the report. Assumes nothing.
 use mathlib.Core.Path.{_≡_, refl, sym, ap, _∙_}
+use mathlib.Core.Logic.{⊎-elim}
 use mathlib.Core.Bool.{Bool, true, false}
 use mathlib.Core.List.{List, [], _∷_}
 use Prim.Native.Nat.{ℕ, suc, _+_, _-_, _≤_, _<_, max}
@@ -14,8 +15,8 @@ use Rattle.rules.specs.Text.{Text, fits, refused, isWhite, trimStart, trimmed, 
 use Rattle.ascii.specs.Part.{part, before}
 use Rattle.ascii.proofs.PartLaws.{part-drop}
 use Rattle.text.specs.declared.Text.{Text as Code}
-use Rattle.text.specs.Held.{textOf, codeOf, bytesOf, Laid}
-use Rattle.text.proofs.HeldLaws.{relaid, onward}
+use Rattle.text.specs.Held.{textOf, codeOf, bytesOf, Held, Laid}
+use Rattle.text.proofs.HeldLaws.{zero-or, text-fits, text-refused, relaid, onward}
 use Rattle.report.specs.declared.Size.{Size}
 use Rattle.report.specs.declared.Finished.{Finished}
 use Rattle.report.specs.Finished.{sizeOf, finished}
@@ -133,18 +134,40 @@ done f n v = record { fault = f; len = n; lines = lines v; width = width v }
 
 reported : {cap : ℕ} {t : Code} {d : List ℕ} (w : Text) → Laid cap (change trimmed w) t d → done (t .fault) (t .len) (take (t .len) d) ≡ finished w
 unfolding done finished codeOf bytesOf
-reported {cap} {t} {d} (fits b) p =
+reported {cap} {t} {d} (fits k b) p =
     rw (p .code, p .bytes) (ap (done 0 (length (trimmed b))) (take-append-seam (trimmed b) (replicate (cap - length (trimmed b)) 0)))
 reported (refused n) p = rw (p .code)
 
-pub both-ends : (w : Text) → change (trimStart isWhite) (cutWhite w) ≡ change trimmed w
-unfolding trimmed
-both-ends (fits b) = refl
+-- nothing is held at the end
+loosen : Text → Text
+loosen (fits k b) = fits 0 b
+loosen (refused n) = refused n
+
+abbrev loose : Code → Code
+loose t = record { len = t .len; floor = 0; fault = t .fault }
+
+loose-is : (t : Code) (d : List ℕ) → textOf (loose t) d ≡ loosen (textOf t d)
+unfolding loosen
+loose-is t d =
+    ⊎-elim
+    (λ (z : t .fault ≡ 0). rw (text-fits (loose t) d z, text-fits t d z))
+    (λ (z : t .fault ≡ 0 → ⊥). rw (text-refused (loose t) d z, text-refused t d z))
+    (zero-or (t .fault))
+
+pub loose-held : (t : Code) (d : List ℕ) → Held t d → Held (record { len = t .len; floor = 0; fault = t .fault }) d
+loose-held t d h = record { within = h .within; floored = omega arith; zeros = h .zeros; empty = h .empty }
+
+both-ends : (w : Text) → change (trimStart isWhite) (cutWhite (loosen w)) ≡ change trimmed w
+unfolding trimmed loosen
+both-ends (fits k b) = refl
 both-ends (refused n) = refl
 
-module _ (cap : ℕ) (w : Text) (t₁ t₂ : Code) (d₁ d₂ : List ℕ) (p : Laid cap (cutWhite w) t₁ d₁) (q : Laid (length d₁) (change (trimStart isWhite) (textOf t₁ d₁)) t₂ d₂) where
-  pub trims : Laid cap (change trimmed w) t₂ d₂
-  trims = relaid refl (both-ends w) (onward (λ n. change (trimStart isWhite)) p q)
+module _ (cap : ℕ) (t : Code) (d : List ℕ) (t₁ t₂ : Code) (d₁ d₂ : List ℕ) (p : Laid cap (cutWhite (textOf (record { len = t .len; floor = 0; fault = t .fault }) d)) t₁ d₁) (q : Laid (length d₁) (change (trimStart isWhite) (textOf t₁ d₁)) t₂ d₂) where
+  abbrev w : Text
+  w = textOf t d
+
+  trims : Laid cap (change trimmed w) t₂ d₂
+  trims = relaid refl (ap (λ (z : Text). change (trimStart isWhite) (cutWhite z)) (loose-is t d) ∙ both-ends w) (onward (λ n. change (trimStart isWhite)) p q)
 
   pub by-finished : (s : Size) → s ≡ sizeOf (take (t₂ .len) d₂) → record { fault = t₂ .fault; len = t₂ .len; lines = s .lines; width = s .width } ≡ finished w
   unfolding done

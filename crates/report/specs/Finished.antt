@@ -11,5 +11,5 @@ sizeOf v = record { lines = lines v; width = width v }
 
 -- the bytes are trimmed at both ends; a refused text has none
 unfoldable pub finished : Text → Finished
-finished (fits b) = record { fault = 0; len = length (trimmed b); lines = lines (trimmed b); width = width (trimmed b) }
+finished (fits k b) = record { fault = 0; len = length (trimmed b); lines = lines (trimmed b); width = width (trimmed b) }
 finished (refused n) = record { fault = n; len = 0; lines = 0; width = 0 }

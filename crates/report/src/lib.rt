@@ -60,13 +60,18 @@ fn trim_start(text: &mut [u8], t: Text) -> Text
     let len = t.len;
     let from = white_start(text, len);
     if from == 0 {
-        return t;
+        return Text {
+            len,
+            floor: 0,
+            fault: t.fault,
+        };
     }
     let left = len - from;
     move_down(text, from, left);
     fill(text, left, 0, from);
     Text {
         len: left,
+        floor: 0,
         fault: t.fault,
     }
 }
@@ -118,7 +123,13 @@ pub fn finish(text: &mut [u8], t: Text) -> Finished
     ensures { λ r. ⌜ r ≡ finished (textOf t (now (text .entry))) ⌝ }
     ensures { λ r. ⌜ now (text .exit) ≡ bytesOf (length (now (text .entry))) (change trimmed (textOf t (now (text .entry)))) ⌝ }
 {
-    let cut = trim_all_spaces_end(text, t);
+    // At the end nothing is held.
+    let loose = Text {
+        len: t.len,
+        floor: 0,
+        fault: t.fault,
+    };
+    let cut = trim_all_spaces_end(text, loose);
     let done = trim_start(text, cut);
     let len = done.len;
     let size = lines_width(text, len);

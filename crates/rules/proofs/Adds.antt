@@ -6,24 +6,26 @@ use mathlib.Core.List.{List, [], _∷_, _++_, append-assoc, append-nil}
 use Prim.Native.Nat.{ℕ, suc, _+_}
 use native.Mathlib.Omega.{arith}
 use lib.Dec.{eqb, leb}
-use lib.ListN.{length}
+use lib.ListN.{length, take, drop, take-append-drop}
 use Rattle.rules.specs.declared.SpanInfo.{SpanInfo}
 use Rattle.rules.specs.declared.BlockInfo.{BlockInfo}
 use Rattle.rules.specs.Base.{if_then_else_, choose, when}
 use Rattle.rules.specs.Tokens.{Token, Here}
 use Rattle.rules.specs.Sheet.{Env}
-use Rattle.rules.specs.Text.{isBlank, isWhite, trimEnd, lastOr, Text, fits, refused, change, append, lineFeed, refuse, newLine, cutBlanks}
+use Rattle.rules.specs.declared.Inline.{Inline}
+use Rattle.rules.specs.declared.Inline.the-variants as inline
+use Rattle.rules.specs.Text.{isBlank, isWhite, trimEnd, lastOr, Text, fits, refused, append, lineFeed, refuse, cut, cutBlanks, hold, isOn, newLine, closingLine}
 use Rattle.rules.specs.Indentation.{Indentation}
-use Rattle.rules.specs.State.{State, refuseIf, trimSpacesEnd, trimAllSpacesEnd, pushStr, push, oneBlank, onText, onIndentation, onInlineBlock, onBlockLevel, addNewLine, addNewLineInner, getIndent, increaseTopLevel}
+use Rattle.rules.specs.State.{State, refuseIf, trimSpacesEnd, trimAllSpacesEnd, pushStr, push, oneBlank, onText, onIndentation, onInlineBlock, onBlockLevel, addNewLine, closeLineComment, addNewLineInner, getIndent, increaseTopLevel}
 use Rattle.rules.specs.Formatter.{formatReservedWord, pushReserved, formatLineComment, formatTypeSpecifier, formatBlockComment, newTopLine, formatTopLevelReservedWord, formatTopLevelReservedWordNoIndent, formatNewlineAfterReservedWord, indentInlined, formatNewlineReservedWord, formatReserved, formatWithSpaces, formatWithSpaceAfter, formatWithoutSpaces, formatOpeningParentheses, formatClosingParentheses, formatComma, formatQuerySeparator, formatByValue}
 use Rattle.rules.specs.Due.{white, strip}
 use Rattle.rules.proofs.Strip.{white-true, strip-append, strip-trimEnd, blank-white, strip-equalize, strip-indentComment, strip-indent, strip-replicate}
 
 -- from a text to the next, v is added; a refusal has a number, and stays
 abbrev pub Grown : Text → Text → List ℕ → Type 0
-Grown (fits b) (fits c) v = strip c ≡ strip b ++ v
-Grown (fits b) (refused n) v = n ≡ 0 → ⊥
-Grown (refused n) (fits c) v = ⊥
+Grown (fits k b) (fits l c) v = strip c ≡ strip b ++ v
+Grown (fits k b) (refused n) v = n ≡ 0 → ⊥
+Grown (refused n) (fits l c) v = ⊥
 Grown (refused n) (refused m) v = n ≡ m
 
 -- from s to u, v is added, and the parameter counter stays
@@ -34,12 +36,12 @@ pub record Adds (s u : State) (v : List ℕ) : Type 0 where
 -- ---- one after the other, and choices
 
 grown-then : (t u w : Text) (x y : List ℕ) → Grown t u x → Grown u w y → Grown t w (x ++ y)
-grown-then (fits a) (fits b) (fits c) x y p q = rw (q, p) (append-assoc (strip a) x y)
-grown-then (fits a) (fits b) (refused n) x y p q = q
-grown-then (fits a) (refused n) (fits c) x y p q = absurd q
-grown-then (fits a) (refused n) (refused m) x y p q = λ z. p (q ∙ z)
-grown-then (refused k) (fits b) w x y p q = absurd p
-grown-then (refused k) (refused n) (fits c) x y p q = absurd q
+grown-then (fits j a) (fits k b) (fits l c) x y p q = rw (q, p) (append-assoc (strip a) x y)
+grown-then (fits j a) (fits k b) (refused n) x y p q = q
+grown-then (fits j a) (refused n) (fits l c) x y p q = absurd q
+grown-then (fits j a) (refused n) (refused m) x y p q = λ z. p (q ∙ z)
+grown-then (refused k) (fits l b) w x y p q = absurd p
+grown-then (refused k) (refused n) (fits l c) x y p q = absurd q
 grown-then (refused k) (refused n) (refused m) x y p q = p ∙ q
 
 infixl 40 _then_ _quietly_
@@ -57,7 +59,7 @@ chosen true f g p q = p
 chosen false f g p q = q
 
 grown-nothing : (t : Text) → Grown t t []
-grown-nothing (fits b) = sym (append-nil (strip b))
+grown-nothing (fits k b) = sym (append-nil (strip b))
 grown-nothing (refused n) = refl
 
 pub same-text : {s u : State} → u .text ≡ s .text → u .index ≡ s .index → Adds s u []
@@ -70,8 +72,8 @@ maybe false f {s} p = same-text refl refl
 
 -- ---- steps on the text
 
-grown-trim : (p : ℕ → Bool) → ((x : ℕ) → p x ≡ true → white x ≡ true) → (t : Text) → Grown t (change (trimEnd p) t) []
-grown-trim p w (fits b) = strip-trimEnd p w b ∙ sym (append-nil (strip b))
+grown-trim : (p : ℕ → Bool) → ((x : ℕ) → p x ≡ true → white x ≡ true) → (t : Text) → Grown t (cut p t) []
+grown-trim p w (fits k b) = strip-append (take k b) (trimEnd p (drop k b)) ∙ rw (strip-trimEnd p w (drop k b), ← strip-append (take k b) (drop k b), take-append-drop k b) (sym (append-nil (strip b)))
 grown-trim p w (refused n) = refl
 
 pub trims : {s : State} → Adds s (trimSpacesEnd s) []
@@ -84,9 +86,9 @@ trimsAll {s} = record { grown = grown-trim isWhite white-true (s .text); counted
 
 grown-append : (room : ℕ) (v : List ℕ) (t : Text) → Grown t (append room v t) (strip v)
 grown-append room v (refused n) = refl
-grown-append room v (fits b) = go (leb (length b + length v) room)
+grown-append room v (fits k b) = go (leb (length b + length v) room)
   where
-    go : (f : Bool) → Grown (fits b) (if f then fits (b ++ v) else refused 9) (strip v)
+    go : (f : Bool) → Grown (fits k b) (if f then fits k (b ++ v) else refused 9) (strip v)
     go true = strip-append b v
     go false = λ z. omega arith
 
@@ -103,7 +105,7 @@ unfolding push
 blank e = pushes e (32 ∷ [])
 
 grown-refuse : (n : ℕ) → (n ≡ 0 → ⊥) → (b : Bool) (t : Text) → Grown t (if b then refuse n t else t) []
-grown-refuse n z true (fits b) = z
+grown-refuse n z true (fits k b) = z
 grown-refuse n z true (refused m) = refl
 grown-refuse n z false t = grown-nothing t
 
@@ -133,13 +135,13 @@ increases sp = refuses _ 6 (λ z. omega arith) then indents _
 
 grown-feed : (room : ℕ) (t : Text) → Grown t (lineFeed room t) []
 grown-feed room (refused n) = refl
-grown-feed room (fits b) = go (eqb (lastOr 0 b) 10)
+grown-feed room (fits k b) = go (eqb (lastOr 0 b) 10)
   where
-    go : (f : Bool) → Grown (fits b) (if f then fits b else append room (10 ∷ []) (fits b)) []
+    go : (f : Bool) → Grown (fits k b) (if f then fits k b else append room (10 ∷ []) (fits k b)) []
     go true = sym (append-nil (strip b))
-    go false = grown-append room (10 ∷ []) (fits b)
+    go false = grown-append room (10 ∷ []) (fits k b)
 
-grown-line : (room : ℕ) (inline : Bool) (ind : List ℕ) (t : Text) → strip ind ≡ [] → Grown t (newLine room inline ind t) []
+grown-line : (room : ℕ) (on : Bool) (ind : List ℕ) (t : Text) → strip ind ≡ [] → Grown t (newLine room on ind t) []
 unfolding newLine
 grown-line room true ind t w =
     grown-then t (cutBlanks t) (append room (32 ∷ []) (cutBlanks t)) [] [] (grown-trim isBlank blank-white t) (grown-append room (32 ∷ []) (cutBlanks t))
@@ -150,7 +152,24 @@ grown-line room false ind t w =
 
 pub newLineInner : (e : Env) (folded : Bool) {s : State} → Adds s (addNewLineInner e folded s) []
 unfolding addNewLineInner getIndent onText
-newLineInner e folded {s} = record { grown = grown-line (e .room) (e .options .inline) _ (s .text) (strip-indent (e .options .indent) _); counted = refl }
+newLineInner e folded {s} = record { grown = grown-line (e .room) (isOn (e .options .inline)) _ (s .text) (strip-indent (e .options .indent) _); counted = refl }
+
+grown-held : (t : Text) → Grown t (hold t) []
+grown-held (fits k b) = sym (append-nil (strip b))
+grown-held (refused n) = refl
+
+grown-closing : (room : ℕ) (i : Inline) (ind : List ℕ) (t : Text) → strip ind ≡ [] → Grown t (closingLine room i ind t) []
+unfolding closingLine
+grown-closing room inline.Off ind t w = grown-line room false ind t w
+grown-closing room inline.On ind t w = grown-line room true ind t w
+grown-closing room inline.Comments ind t w =
+    grown-then t (lineFeed room (cutBlanks t)) (hold (lineFeed room (cutBlanks t))) [] []
+    (grown-then t (cutBlanks t) (lineFeed room (cutBlanks t)) [] [] (grown-trim isBlank blank-white t) (grown-feed room (cutBlanks t)))
+    (grown-held (lineFeed room (cutBlanks t)))
+
+closes : (e : Env) {s : State} → Adds s (closeLineComment e s) []
+unfolding closeLineComment getIndent onText
+closes e {s} = record { grown = grown-closing (e .room) (e .options .inline) _ (s .text) (strip-indent (e .options .indent) _); counted = refl }
 
 pub lines : (e : Env) {s : State} → Adds s (addNewLine e s) []
 unfolding addNewLine
@@ -201,7 +220,7 @@ reserved e h = word e (h .token) quietly blank e quietly indents _
 
 pub lineComment : (e : Env) (h : Here) {s : State} → Adds s (formatLineComment e h s) (strip (h .token .value))
 unfolding formatLineComment
-lineComment e h = chosen _ _ _ (lines e) (maybe _ _ (trimsAll then pushes e (32 ∷ 32 ∷ []))) then pushes e (h .token .value) quietly lines e
+lineComment e h = chosen _ _ _ (lines e) (maybe _ _ (trimsAll then pushes e (32 ∷ 32 ∷ []))) then pushes e (h .token .value) quietly closes e
 
 pub typeSpecifier : (e : Env) (h : Here) {s : State} → Adds s (formatTypeSpecifier e h s) (strip (h .token .value))
 unfolding formatTypeSpecifier

@@ -194,16 +194,16 @@ StripsTo (laid b l w) v = strip b ≡ v
 StripsTo (refusal n p) v = n ≡ 0 → ⊥
 
 -- one step and the rest: d is added by the step, r by the rest
-keeps-next : (x : Text) (place : ℕ) (rest : Answer) (a d r : List ℕ) → Adds.Grown (fits a) x d → ((c : List ℕ) → x ≡ fits c → StripsTo rest (strip c ++ r)) → StripsTo (unlessRefused x place rest) (strip a ++ (d ++ r))
+keeps-next : (x : Text) (place : ℕ) (rest : Answer) (k : ℕ) (a d r : List ℕ) → Adds.Grown (fits k a) x d → ((l : ℕ) (c : List ℕ) → x ≡ fits l c → StripsTo rest (strip c ++ r)) → StripsTo (unlessRefused x place rest) (strip a ++ (d ++ r))
 unfolding unlessRefused
-keeps-next (fits c) place rest a d r g ih = rw (← append-assoc (strip a) d r, ← g) (ih c refl)
-keeps-next (refused n) place rest a d r g ih = g
+keeps-next (fits l c) place rest k a d r g ih = rw (← append-assoc (strip a) d r, ← g) (ih l c refl)
+keeps-next (refused n) place rest k a d r g ih = g
 
-keeps-from : (e : Env) (before ts : List Token) (taken : List Piece) (w : Switch) (s : State) (a : List ℕ) → s .text ≡ fits a → s .index ≡ counter (e .params) taken
+keeps-from : (e : Env) (before ts : List Token) (taken : List Piece) (w : Switch) (s : State) (k : ℕ) (a : List ℕ) → s .text ≡ fits k a → s .index ≡ counter (e .params) taken
     → StripsTo (formatFrom e before ts w s) (strip a ++ dueBy e taken (keptAfter w ts))
 unfolding formatFrom keptTokens dueFrom finish report
-keeps-from e before [] taken w s a h sync = rw h (strip-trimmed a ∙ sym (append-nil (strip a)))
-keeps-from e before (t ∷ ts) taken w s a h sync =
+keeps-from e before [] taken w s k a h sync = rw h (strip-trimmed a ∙ sym (append-nil (strip a)))
+keeps-from e before (t ∷ ts) taken w s k a h sync =
     let here : Here = record { before = before; token = t; after = ts } in
     let xs : List Piece = keptHere (w .enabled) (w .dropNext) t in
     let after : Switch = nextSwitch (w .enabled) (w .dropNext) t in
@@ -211,9 +211,9 @@ keeps-from e before (t ∷ ts) taken w s a h sync =
     let done : State = takenAs (turnOf w (t .kind) (t .value)) e here s in
     let lays : LaysOut e taken s done xs = lays-step e here taken s sync (w .enabled) (w .dropNext) in
     rw (kept-step (w .enabled) (w .dropNext) t ts, due-append e taken xs rest)
-    (keeps-next (done .text) (length before) (formatFrom e (t ∷ before) ts after done) a (dueBy e taken xs) (dueBy e (onto xs taken) rest)
+    (keeps-next (done .text) (length before) (formatFrom e (t ∷ before) ts after done) k a (dueBy e taken xs) (dueBy e (onto xs taken) rest)
     (subst (λ (x : Text). Adds.Grown x (done .text) (dueBy e taken xs)) h (lays .grown))
-    (λ c q. keeps-from e (t ∷ before) ts (onto xs taken) after done c q (lays .count)))
+    (λ l c q. keeps-from e (t ∷ before) ts (onto xs taken) after done l c q (lays .count)))
 
 counter-none : (ps : QueryParams) → 0 ≡ counter ps []
 unfolding counter countNext
@@ -224,4 +224,4 @@ counter-none (Indexed vs) = refl
 -- the theorem
 pub keeps : (e : Env) (ts : List Token) → StripsTo (format e ts) (due (e .params) (e .keep) (e .options .casing) ts)
 unfolding format due start switchedOn
-keeps e ts = keeps-from e [] ts [] switchedOn start [] refl (counter-none (e .params))
+keeps e ts = keeps-from e [] ts [] switchedOn start 0 [] refl (counter-none (e .params))

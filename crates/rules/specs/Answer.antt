@@ -33,11 +33,11 @@ report b = laid b (lines b) (width b)
 
 -- the answer of a working text: a refusal, given at a place; else what follows
 unfoldable pub unlessRefused : Text → ℕ → Answer → Answer
-unlessRefused (fits b) place later = later
+unlessRefused (fits k b) place later = later
 unlessRefused (refused n) place later = refusal n place
 
 unfoldable pub finish : Text → Answer
-finish (fits b) = report (trimmed b)
+finish (fits k b) = report (trimmed b)
 finish (refused n) = refusal n 0
 
 -- before: the tokens that were taken, the last of them first

@@ -53,7 +53,7 @@ headWords s =
     demanded (modeFits (wordAt s 16) (wordAt s 4)) 16
     (demanded (leb (wordAt s 20) 256) 20
     (demanded (leb (wordAt s 24) 2) 24
-    (demanded (leb (wordAt s 28) 1) 28
+    (demanded (leb (wordAt s 28) 2) 28
     (demanded (leb (wordAt s 32) 255) 32
     Nowhere))))
 

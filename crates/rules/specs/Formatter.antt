@@ -17,12 +17,12 @@ use Rattle.rules.specs.Bytes.{bytes}
 use Rattle.rules.specs.Base.{if_then_else_, _▹_, same, anyOf, first, head?, holds, orZero, isSome, choose, when, full}
 use Rattle.rules.specs.Tokens.{Token, Here, is, oneOf}
 use Rattle.rules.specs.Sheet.{Env}
-use Rattle.rules.specs.Text.{inCase, isLower, equalizeWhitespace, indentComment}
+use Rattle.rules.specs.Text.{inCase, isLower, equalizeWhitespace, indentComment, isOn}
 use Rattle.rules.specs.Span.{topLevelTokensInfo}
 use Rattle.rules.specs.InlineBlock.{buildInfo, isActive, curLen, beginsInline, beginIfPossible}
 use Rattle.rules.specs.Indentation.{noIndentation, unfolded, increaseBlockLevel, decreaseTopLevel, decreaseBlockLevel, setPreviousReserved, setPreviousTopLevel, previousReserved, previousTopLevelReserved, span}
 use Rattle.rules.specs.Params.{get, advances, offends}
-use Rattle.rules.specs.State.{State, onIndentation, onInlineBlock, onBlockLevel, onIndex, refuseIf, pushStr, push, trimSpacesEnd, trimAllSpacesEnd, oneBlank, getIndent, addNewLineInner, addNewLine, increaseTopLevel}
+use Rattle.rules.specs.State.{State, onIndentation, onInlineBlock, onBlockLevel, onIndex, refuseIf, pushStr, push, trimSpacesEnd, trimAllSpacesEnd, oneBlank, getIndent, addNewLineInner, addNewLine, closeLineComment, increaseTopLevel}
 
 -- ---- words and neighbours
 
@@ -73,7 +73,7 @@ unfoldable pub formatLineComment : Env → Here → State → State
 formatLineComment e h s =
     s ▹ choose (afterLineFeed h && whiteThenNoOperator h) (addNewLine e)
     (when (twoAfterComma h) (λ r. r ▹ trimAllSpacesEnd ▹ pushStr e (bytes "  ")))
-    ▹ pushStr e (h .token .value) ▹ addNewLine e
+    ▹ pushStr e (h .token .value) ▹ closeLineComment e
 
 unfoldable pub formatTypeSpecifier : Env → Here → State → State
 formatTypeSpecifier e h s =
@@ -192,7 +192,7 @@ formatClosingParentheses e h s =
     ▹ onIndentation (λ i. closed .left)
     ▹ choose (isActive (s .inlineBlock))
     (λ r. r ▹ onInlineBlock tail ▹ choose (isLower v (bytes "end")) (λ q. q ▹ oneBlank e ▹ formatWithSpaces e v) (formatWithSpaceAfter e v))
-    (λ r. r ▹ refuseIf (closed .folded && (not (e .options .inline) && eqb (unfolded (closed .left .indentTypes)) 0)) 8
+    (λ r. r ▹ refuseIf (closed .folded && (not (isOn (e .options .inline)) && eqb (unfolded (closed .left .indentTypes)) 0)) 8
     ▹ addNewLineInner e (closed .folded) ▹ formatWithSpaces e v)
 
 -- ---- placeholders and signs

@@ -16,4 +16,5 @@ pub mod Answer
 pub mod Computed
 pub mod Encode
 pub mod Sheets
+pub mod Comments
 pub mod Due

@@ -11,6 +11,8 @@ use Rattle.rules.specs.declared.Indent.{Indent}
 use Rattle.rules.specs.declared.Indent.the-variants as indent
 use Rattle.rules.specs.declared.Case.{Case}
 use Rattle.rules.specs.declared.Case.the-variants as case
+use Rattle.rules.specs.declared.Inline.{Inline}
+use Rattle.rules.specs.declared.Inline.the-variants as inline
 use Rattle.rules.specs.declared.Limit.{Limit}
 use Rattle.rules.specs.declared.Limit.the-variants as limit
 use Rattle.rules.specs.declared.FormatOptions.{FormatOptions}
@@ -36,6 +38,9 @@ indentFrom w = if eqb w 256 then indent.Tabs else indent.Spaces w
 unfoldable pub caseFrom : ℕ → Case
 caseFrom w = getD (case.AsIs ∷ case.Upper ∷ []) w case.Lower
 
+unfoldable pub inlineFrom : ℕ → Inline
+inlineFrom w = getD (inline.Off ∷ inline.On ∷ []) w inline.Comments
+
 unfoldable pub limitFrom : ℕ → Limit
 limitFrom w = if eqb w 4294967295 then limit.None else limit.Some w
 
@@ -44,7 +49,7 @@ optionsOf s =
     record {
       indent = indentFrom (wordAt s 20);
       casing = caseFrom (wordAt s 24);
-      inline = eqb (wordAt s 28) 1;
+      inline = inlineFrom (wordAt s 28);
       «lines_between_queries» = wordAt s 32;
       «max_inline_block» = wordAt s 36;
       «max_inline_arguments» = limitFrom (wordAt s 40);

@@ -5,7 +5,7 @@ use Prim.Native.Nat.{ℕ}
 use Rattle.rules.specs.declared.SpanInfo.{SpanInfo}
 use Rattle.rules.specs.Base.{if_then_else_, _▹_, full}
 use Rattle.rules.specs.Sheet.{Env}
-use Rattle.rules.specs.Text.{Text, fits, append, refuse, cutBlanks, cutWhite, indentOf, newLine}
+use Rattle.rules.specs.Text.{Text, fits, append, refuse, cutBlanks, cutWhite, indentOf, isOn, newLine, closingLine}
 use Rattle.rules.specs.Indentation.{Indentation, noIndentation, indentLevel}
 use Rattle.rules.specs.Indentation as indentation
 
@@ -18,7 +18,7 @@ pub record State : Type 0 where
   pub index : ℕ
 
 unfoldable pub start : State
-start = record { text = fits []; indentation = noIndentation; inlineBlock = []; blockLevel = 0; index = 0 }
+start = record { text = fits 0 []; indentation = noIndentation; inlineBlock = []; blockLevel = 0; index = 0 }
 
 unfoldable pub onText : (Text → Text) → State → State
 onText f s = record { text = f (s .text); indentation = s .indentation; inlineBlock = s .inlineBlock; blockLevel = s .blockLevel; index = s .index }
@@ -58,10 +58,14 @@ unfoldable pub getIndent : Env → Bool → State → List ℕ
 getIndent e folded s = indentOf (e .options .indent) (indentLevel folded (s .indentation))
 
 unfoldable pub addNewLineInner : Env → Bool → State → State
-addNewLineInner e folded s = onText (newLine (e .room) (e .options .inline) (getIndent e folded s)) s
+addNewLineInner e folded s = onText (newLine (e .room) (isOn (e .options .inline)) (getIndent e folded s)) s
 
 unfoldable pub addNewLine : Env → State → State
 addNewLine e s = addNewLineInner e false s
+
+-- the new line that closes a line comment
+unfoldable pub closeLineComment : Env → State → State
+closeLineComment e s = onText (closingLine (e .room) (e .options .inline) (getIndent e false s)) s
 
 -- refusal 6 where the indent stack is full
 unfoldable pub increaseTopLevel : SpanInfo → State → State

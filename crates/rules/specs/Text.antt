@@ -1,11 +1,13 @@
 -- Rules on bytes: white bytes, cutting, casing, joining blanks, comments; the working text, which a refusal replaces; lines and width.
-use mathlib.Core.Bool.{Bool, _&&_, _||_}
+use mathlib.Core.Bool.{Bool, true, false, _&&_, _||_}
 use mathlib.Core.List.{List, [], _∷_, _++_, map}
 use Prim.Native.Nat.{ℕ, suc, _+_, _-_, _*_, max}
 use lib.Dec.{eqb, leb}
-use lib.ListN.{length, replicate}
+use lib.ListN.{length, take, drop, replicate}
 use Rattle.rules.specs.declared.Case.{Case}
 use Rattle.rules.specs.declared.Case.the-variants as case
+use Rattle.rules.specs.declared.Inline.{Inline}
+use Rattle.rules.specs.declared.Inline.the-variants as inline
 use Rattle.rules.specs.declared.Indent.{Indent}
 use Rattle.rules.specs.declared.Indent.the-variants as indent
 use Rattle.rules.specs.Base.{if_then_else_, _▹_, same}
@@ -109,39 +111,61 @@ widthFrom at best (x ∷ xs) = widthFrom (if eqb x 10 then 0 else suc at) (if eq
 abbrev pub width : List ℕ → ℕ
 width v = widthFrom 0 0 v
 
--- ---- the working text: bytes, until an offence takes their place
+-- ---- the working text: bytes, until an offence takes their place; no cut goes below the floor
 
 pub data Text : Type 0 where
-  fits : List ℕ → Text
+  fits : (floor : ℕ) → List ℕ → Text
   refused : ℕ → Text
 
+-- other bytes, of which none is held
 abbrev pub change : (List ℕ → List ℕ) → Text → Text
-change f (fits b) = fits (f b)
+change f (fits k b) = fits 0 (f b)
 change f (refused n) = refused n
 
 -- v is appended in a buffer of `room` bytes
 abbrev pub append : ℕ → List ℕ → Text → Text
-append room v (fits b) = if leb (length b + length v) room then fits (b ++ v) else refused 9
+append room v (fits k b) = if leb (length b + length v) room then fits k (b ++ v) else refused 9
 append room v (refused n) = refused n
 
 -- a line feed, unless there is one
 abbrev pub lineFeed : ℕ → Text → Text
-lineFeed room (fits b) = if eqb (lastOr 0 b) 10 then fits b else append room (10 ∷ []) (fits b)
+lineFeed room (fits k b) = if eqb (lastOr 0 b) 10 then fits k b else append room (10 ∷ []) (fits k b)
 lineFeed room (refused n) = refused n
 
 -- the first offence stays
 abbrev pub refuse : ℕ → Text → Text
-refuse n (fits b) = refused n
+refuse n (fits k b) = refused n
 refuse n (refused m) = refused m
 
+-- the bytes of p go from the end, down to the floor
+abbrev pub cut : (ℕ → Bool) → Text → Text
+cut p (fits k b) = fits k (take k b ++ trimEnd p (drop k b))
+cut p (refused n) = refused n
+
 abbrev pub cutBlanks : Text → Text
-cutBlanks w = change (trimEnd isBlank) w
+cutBlanks w = cut isBlank w
 
 abbrev pub cutWhite : Text → Text
-cutWhite w = change (trimEnd isWhite) w
+cutWhite w = cut isWhite w
+
+-- all that stands there is held: the floor is its length
+abbrev pub hold : Text → Text
+hold (fits k b) = fits (length b) b
+hold (refused n) = refused n
+
+abbrev pub isOn : Inline → Bool
+isOn inline.Off = false
+isOn inline.On = true
+isOn inline.Comments = true
 
 -- blanks and tabs are cut; then one blank where all is inline, else a line feed unless there is one, and the indent
 unfoldable pub newLine : ℕ → Bool → List ℕ → Text → Text
-newLine room inline ind w =
-    if inline then w ▹ cutBlanks ▹ append room (32 ∷ [])
+newLine room on ind w =
+    if on then w ▹ cutBlanks ▹ append room (32 ∷ [])
     else w ▹ cutBlanks ▹ lineFeed room ▹ append room ind
+
+-- the new line that closes a line comment: with `Comments` a line feed unless there is one, no indent, and the line feed is held
+unfoldable pub closingLine : ℕ → Inline → List ℕ → Text → Text
+closingLine room inline.Off ind w = newLine room false ind w
+closingLine room inline.On ind w = newLine room true ind w
+closingLine room inline.Comments ind w = w ▹ cutBlanks ▹ lineFeed room ▹ hold

@@ -67,6 +67,13 @@ pub enum Case {
     Lower,
 }
 
+// Whether all goes on one line. `Comments`: as `On`, but a line comment is closed by a line feed.
+pub enum Inline {
+    Off,
+    On,
+    Comments,
+}
+
 // A limit that may be left out.
 pub enum Limit {
     None,
@@ -76,7 +83,7 @@ pub enum Limit {
 pub struct FormatOptions {
     pub indent: Indent,
     pub casing: Case,
-    pub inline: bool,
+    pub inline: Inline,
     pub lines_between_queries: u8,
     pub max_inline_block: u32,
     pub max_inline_arguments: Limit,

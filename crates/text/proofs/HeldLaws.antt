@@ -29,7 +29,7 @@ pub le-or : (a b : ℕ) → (a ≤ b) ⊎ (b < a)
 le-or a b = le-or-by a b (leb a b) refl
 
 module _ (t : Code) (d : List ℕ) where
-  pub text-fits : t .fault ≡ 0 → textOf t d ≡ fits (take (t .len) d)
+  pub text-fits : t .fault ≡ 0 → textOf t d ≡ fits (t .floor) (take (t .len) d)
   unfolding textOf
   text-fits h = simp (eq-eqb _ _ h)
 
@@ -39,22 +39,29 @@ module _ (t : Code) (d : List ℕ) where
 
 -- ---- exactness
 
-code-same : (t u : Code) → t .len ≡ u .len → t .fault ≡ u .fault → t ≡ u
-code-same t u e f = ap (λ (n : ℕ). mk n (t .fault)) e ∙ ap (λ (n : ℕ). mk (u .len) n) f
+code-same : (t u : Code) → t .len ≡ u .len → t .floor ≡ u .floor → t .fault ≡ u .fault → t ≡ u
+code-same t u e g f = ap (λ (n : ℕ). mk n (t .floor) (t .fault)) e ∙ ap (λ (n : ℕ). mk (u .len) n (t .fault)) g ∙ ap (λ (n : ℕ). mk (u .len) (u .floor) n) f
   where
-    mk : ℕ → ℕ → Code
-    mk n k = record { len = n; fault = k }
+    mk : ℕ → ℕ → ℕ → Code
+    mk n m k = record { len = n; floor = m; fault = k }
+
+-- the floor of an empty text is 0
+no-floor : (t : Code) (d : List ℕ) → Held t d → (t .fault ≡ 0 → ⊥) → t .floor ≡ 0
+no-floor t d h z =
+    let e = h .empty z in
+    let f = h .floored in
+    omega arith
 
 -- a refused text is its fault
-pub only-fault : (t : Code) (d : List ℕ) → Held t d → (t .fault ≡ 0 → ⊥) → t ≡ record { len = 0; fault = t .fault }
-only-fault t d h z = code-same t _ (h .empty z) refl
+pub only-fault : (t : Code) (d : List ℕ) → Held t d → (t .fault ≡ 0 → ⊥) → t ≡ record { len = 0; floor = 0; fault = t .fault }
+only-fault t d h z = code-same t _ (h .empty z) (no-floor t d h z) refl
 
 exact-code : (t : Code) (d : List ℕ) → Held t d → t ≡ codeOf (textOf t d)
 unfolding codeOf
 exact-code t d h =
     ⊎-elim
-    (λ (z : t .fault ≡ 0). rw (text-fits t d z) (code-same t _ (sym (length-take-le (t .len) d (h .within))) z))
-    (λ (z : t .fault ≡ 0 → ⊥). rw (text-refused t d z) (code-same t _ (h .empty z) refl))
+    (λ (z : t .fault ≡ 0). rw (text-fits t d z) (code-same t _ (sym (length-take-le (t .len) d (h .within))) refl z))
+    (λ (z : t .fault ≡ 0 → ⊥). rw (text-refused t d z) (code-same t _ (h .empty z) (no-floor t d h z) refl))
     (zero-or (t .fault))
 
 exact-bytes : (t : Code) (d : List ℕ) → Held t d → d ≡ bytesOf (length d) (textOf t d)
@@ -101,7 +108,7 @@ onward g p q = laid-then g p (p .room) q
 
 pub append-append : (room : ℕ) (v w : List ℕ) (t : Text) → append room v (append room w t) ≡ append room (w ++ v) t
 append-append room v w (refused n) = refl
-append-append room v w (fits b) =
+append-append room v w (fits floor b) =
     let l : length (w ++ v) ≡ length w + length v = length-append w v in
     let m : length (b ++ w) ≡ length b + length w = length-append b w in
     ⊎-elim

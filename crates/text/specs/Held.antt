@@ -11,21 +11,22 @@ use Rattle.text.specs.declared.Text.{Text as Code}
 
 -- the rules' text that t and the buffer d stand for
 unfoldable pub textOf : Code → List ℕ → Text
-textOf t d = if eqb (t .fault) 0 then fits (take (t .len) d) else refused (t .fault)
+textOf t d = if eqb (t .fault) 0 then fits (t .floor) (take (t .len) d) else refused (t .fault)
 
--- the text is within the buffer, zeros follow it, and a refused one is empty
+-- the text is within the buffer, zeros follow it, the floor is within the text, and a refused one is empty
 pub record Held (t : Code) (d : List ℕ) : Type 0 where
   pub within : t .len ≤ length d
+  pub floored : t .floor ≤ t .len
   pub zeros : drop (t .len) d ≡ replicate (length d - t .len) 0
   pub empty : (t .fault ≡ 0 → ⊥) → t .len ≡ 0
 
 -- the code's text, and each byte of a buffer of cap bytes, for a text of the rules
 unfoldable pub codeOf : Text → Code
-codeOf (fits b) = record { len = length b; fault = 0 }
-codeOf (refused n) = record { len = 0; fault = n }
+codeOf (fits k b) = record { len = length b; floor = k; fault = 0 }
+codeOf (refused n) = record { len = 0; floor = 0; fault = n }
 
 unfoldable pub bytesOf : ℕ → Text → List ℕ
-bytesOf cap (fits b) = b ++ replicate (cap - length b) 0
+bytesOf cap (fits k b) = b ++ replicate (cap - length b) 0
 bytesOf cap (refused n) = replicate cap 0
 
 -- the answer t and the buffer d are those of w, to the byte; held and text follow from the first two, and are what a caller goes on with
@@ -35,6 +36,10 @@ pub record Laid (cap : ℕ) (w : Text) (t : Code) (d : List ℕ) : Type 0 where
   pub bytes : d ≡ bytesOf cap w
   pub held : Held t d
   pub text : textOf t d ≡ w
+
+-- the floor is the text's length
+abbrev pub heldWhole : Code → Code
+heldWhole t = record { len = t .len; floor = t .len; fault = t .fault }
 
 -- the bytes that a cut takes: white, or blanks and tabs alone
 abbrev pub cutBytes : Bool → ℕ → Bool

@@ -1,21 +1,24 @@
-// The working text: a lent buffer that holds the text and then zeros, and its length; or, after a refusal, zeros alone and the refusal's number.
+// The working text: a lent buffer that holds the text and then zeros, its length, and the floor, below which no cut goes; or, after a refusal, zeros alone and the
+// refusal's number.
 // A refused text is handed on by every function here, so callers go straight on and look at the fault once.
 // A text is handed on field by field: as a whole it would be copied through memory.
 use ascii::is_blank;
 use ascii::is_white;
 use rules::Indent;
+use rules::Inline;
 ghost use mathlib.Core.Path.{_≡_};
 ghost use Prim.Native.Nat.{_+_, _-_, _≤_, _<_};
 ghost use mathlib.Core.List.{_∷_, []};
 ghost use lib.ListN.{length, take, replicate};
 ghost use lib.Dec.{eqb};
-ghost use Rattle.rules.specs.Text.{trimEnd, lastOr, indentOf, change, append, lineFeed, fits, refuse as refusedWith, cutBlanks, cutWhite, newLine};
+ghost use Rattle.rules.specs.Text.{lastOr, indentOf, append, lineFeed, fits, refuse as refusedWith, cut, cutBlanks, cutWhite, hold as holding, isOn, newLine, closingLine};
 ghost use Rattle.ascii.specs.Part.{part};
 ghost use Rattle.text.specs.Put.{put};
-ghost use Rattle.text.specs.Held.{textOf, Held, Laid, cutBytes};
+ghost use Rattle.text.specs.Held.{textOf, Held, Laid, cutBytes, heldWhole};
 
 pub struct Text {
     pub len: usize,
+    pub floor: usize,
     pub fault: u32,
 }
 
@@ -56,11 +59,15 @@ fn ends_line(text: &[u8], len: usize) -> bool
 // ---- begin, refuse, append
 
 pub fn begin(text: &mut [u8]) -> Text
-    ensures { λ r. ⌜ Laid (length (now (text .entry))) (fits []) r (now (text .exit)) ⌝ }
+    ensures { λ r. ⌜ Laid (length (now (text .entry))) (fits 0 []) r (now (text .exit)) ⌝ }
 {
     let cap = text.len();
     fill(text, 0, 0, cap);
-    Text { len: 0, fault: 0 }
+    Text {
+        len: 0,
+        floor: 0,
+        fault: 0,
+    }
 }
 
 pub fn refuse(text: &mut [u8], t: Text, n: u32) -> Text
@@ -70,11 +77,19 @@ pub fn refuse(text: &mut [u8], t: Text, n: u32) -> Text
 {
     let fault = t.fault;
     if fault != 0 {
-        return Text { len: 0, fault };
+        return Text {
+            len: 0,
+            floor: 0,
+            fault,
+        };
     }
     let cap = text.len();
     fill(text, 0, 0, cap);
-    Text { len: 0, fault: n }
+    Text {
+        len: 0,
+        floor: 0,
+        fault: n,
+    }
 }
 
 pub fn append_byte(text: &mut [u8], t: Text, b: u8) -> Text
@@ -83,7 +98,11 @@ pub fn append_byte(text: &mut [u8], t: Text, b: u8) -> Text
 {
     let fault = t.fault;
     if fault != 0 {
-        return Text { len: 0, fault };
+        return Text {
+            len: 0,
+            floor: 0,
+            fault,
+        };
     }
     let len = t.len;
     if text.len() - len < 1 {
@@ -92,6 +111,7 @@ pub fn append_byte(text: &mut [u8], t: Text, b: u8) -> Text
     text[len] = b;
     Text {
         len: len + 1,
+        floor: t.floor,
         fault: 0,
     }
 }
@@ -102,7 +122,11 @@ pub fn append_repeat(text: &mut [u8], t: Text, b: u8, count: usize) -> Text
 {
     let fault = t.fault;
     if fault != 0 {
-        return Text { len: 0, fault };
+        return Text {
+            len: 0,
+            floor: 0,
+            fault,
+        };
     }
     let len = t.len;
     if text.len() - len < count {
@@ -111,6 +135,7 @@ pub fn append_repeat(text: &mut [u8], t: Text, b: u8, count: usize) -> Text
     fill(text, len, b, count);
     Text {
         len: len + count,
+        floor: t.floor,
         fault: 0,
     }
 }
@@ -122,7 +147,11 @@ pub fn append_part(text: &mut [u8], t: Text, src: &[u8], start: usize, n: usize)
 {
     let fault = t.fault;
     if fault != 0 {
-        return Text { len: 0, fault };
+        return Text {
+            len: 0,
+            floor: 0,
+            fault,
+        };
     }
     let len = t.len;
     if text.len() - len < n {
@@ -131,6 +160,7 @@ pub fn append_part(text: &mut [u8], t: Text, src: &[u8], start: usize, n: usize)
     copy(text, len, src, start, n);
     Text {
         len: len + n,
+        floor: t.floor,
         fault: 0,
     }
 }
@@ -166,19 +196,20 @@ fn is_cut(white: bool, b: u8) -> bool
 // A cut is short, so it goes a byte at a time and zeroes as it goes.
 fn trim_end(text: &mut [u8], t: Text, white: bool) -> Text
     requires { ⌜ Held t (now text) ⌝ }
-    ensures { λ r. ⌜ Laid (length (now (text .entry))) (change (trimEnd (cutBytes white)) (textOf t (now (text .entry)))) r (now (text .exit)) ⌝ }
+    ensures { λ r. ⌜ Laid (length (now (text .entry))) (cut (cutBytes white) (textOf t (now (text .entry)))) r (now (text .exit)) ⌝ }
 {
     let fault = t.fault;
+    let floor = t.floor;
     let mut len = t.len;
-    while 0 < len {
+    while floor < len {
         let last = len - 1;
         if !is_cut(white, text[last]) {
-            return Text { len, fault };
+            return Text { len, floor, fault };
         }
         text[last] = 0;
         len = last;
     }
-    Text { len, fault }
+    Text { len, floor, fault }
 }
 
 pub fn trim_spaces_end(text: &mut [u8], t: Text) -> Text
@@ -205,6 +236,7 @@ pub fn line_feed(text: &mut [u8], t: Text) -> Text
     if ends_line(text, len) {
         return Text {
             len,
+            floor: t.floor,
             fault: t.fault,
         };
     }
@@ -219,15 +251,60 @@ pub fn one_blank(text: &mut [u8], t: Text) -> Text
     append_byte(text, cut, 32)
 }
 
-pub fn new_line(text: &mut [u8], t: Text, inline: bool, indent: Indent, level: usize) -> Text
+// No cut goes below what stands there.
+fn hold(t: Text) -> Text
+    ensures { λ r. ⌜ r ≡ heldWhole t ⌝ }
+{
+    Text {
+        len: t.len,
+        floor: t.len,
+        fault: t.fault,
+    }
+}
+
+pub fn new_line(text: &mut [u8], t: Text, on: bool, indent: Indent, level: usize) -> Text
     requires { ⌜ Held t (now text) ⌝ }
     requires { ⌜ level ≤ 128 ⌝ }
-    ensures { λ r. ⌜ Laid (length (now (text .entry))) (newLine (length (now (text .entry))) inline (indentOf indent level) (textOf t (now (text .entry)))) r (now (text .exit)) ⌝ }
+    ensures { λ r. ⌜ Laid (length (now (text .entry))) (newLine (length (now (text .entry))) on (indentOf indent level) (textOf t (now (text .entry)))) r (now (text .exit)) ⌝ }
 {
-    if inline {
+    if on {
         return one_blank(text, t);
     }
     let cut = trim_spaces_end(text, t);
     let fed = line_feed(text, cut);
     append_indent(text, fed, indent, level)
+}
+
+// ---- the new line that closes a line comment
+
+pub fn is_on(inline: Inline) -> bool
+    ensures { λ r. ⌜ r ≡ isOn inline ⌝ }
+{
+    match inline {
+        Inline::Off => false,
+        Inline::On => true,
+        Inline::Comments => true,
+    }
+}
+
+// A line feed unless there is one, and it is held.
+fn held_line(text: &mut [u8], t: Text) -> Text
+    requires { ⌜ Held t (now text) ⌝ }
+    ensures { λ r. ⌜ Laid (length (now (text .entry))) (holding (lineFeed (length (now (text .entry))) (cutBlanks (textOf t (now (text .entry)))))) r (now (text .exit)) ⌝ }
+{
+    let cut = trim_spaces_end(text, t);
+    let fed = line_feed(text, cut);
+    hold(fed)
+}
+
+pub fn closing_line(text: &mut [u8], t: Text, inline: Inline, indent: Indent, level: usize) -> Text
+    requires { ⌜ Held t (now text) ⌝ }
+    requires { ⌜ level ≤ 128 ⌝ }
+    ensures { λ r. ⌜ Laid (length (now (text .entry))) (closingLine (length (now (text .entry))) inline (indentOf indent level) (textOf t (now (text .entry)))) r (now (text .exit)) ⌝ }
+{
+    match inline {
+        Inline::Off => new_line(text, t, false, indent, level),
+        Inline::On => new_line(text, t, true, indent, level),
+        Inline::Comments => held_line(text, t),
+    }
 }

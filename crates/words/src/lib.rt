@@ -40,7 +40,11 @@ pub fn append_cased(text: &mut [u8], t: Text, src: &[u8], start: usize, n: usize
 {
     let fault = t.fault;
     if fault != 0 {
-        return Text { len: 0, fault };
+        return Text {
+            len: 0,
+            floor: 0,
+            fault,
+        };
     }
     let len = t.len;
     if text.len() - len < n {
@@ -49,6 +53,7 @@ pub fn append_cased(text: &mut [u8], t: Text, src: &[u8], start: usize, n: usize
     copy_cased(text, len, src, start, n, k);
     Text {
         len: len + n,
+        floor: t.floor,
         fault: 0,
     }
 }
@@ -121,6 +126,7 @@ fn append_lead(text: &mut [u8], t: Text, lead: usize, indent: Indent, level: usi
     if lead == 0 {
         return Text {
             len: t.len,
+            floor: t.floor,
             fault: t.fault,
         };
     }

@@ -1,6 +1,6 @@
 use borrow.Author.Needs.{needs}
 use Rattle.query.specs.Query.{lineComment}
-use Rattle.query.proofs.Laws.{then-append, then-line}
+use Rattle.query.proofs.Laws.{then-append, then-closing}
 use Rattle.query.proofs.format_line_comment.Statement.{statement}
 use Rattle.query.proofs.format_line_comment.Tie as tie
 
@@ -10,15 +10,15 @@ before-line-comment-requires c κs = search needs
 format-no-change-requires : tie.Need-format-no-change-requires
 format-no-change-requires c κs = search needs
 
-add-new-line-requires : tie.Need-add-new-line-requires
-add-new-line-requires c κs = search needs
+close-line-comment-requires : tie.Need-close-line-comment-requires
+close-line-comment-requires c κs = search needs
 
 same-length : tie.Need-same-length
 same-length c = search needs
 
 returns : tie.Need-returns
 unfolding lineComment
-returns c = search (needs, then-append, then-line)
+returns c = search (needs, then-append, then-closing)
 
 pub format-line-comment-spec : {M : Type 1} → statement M
 format-line-comment-spec =
@@ -26,6 +26,6 @@ format-line-comment-spec =
     (tie.spec
     before-line-comment-requires
     format-no-change-requires
-    add-new-line-requires
+    close-line-comment-requires
     same-length
     returns)

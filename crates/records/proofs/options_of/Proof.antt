@@ -18,6 +18,9 @@ case-from-requires c κs = search needs
 word-at-requires-3 : tie.Need-word-at-requires-3
 word-at-requires-3 c κs = search needs
 
+inline-from-requires : tie.Need-inline-from-requires
+inline-from-requires c κs = search needs
+
 word-at-requires-4 : tie.Need-word-at-requires-4
 word-at-requires-4 c κs = search needs
 
@@ -50,11 +53,12 @@ returns c =
       c .before .before .before .before .word-at5 .ensures,
       c .before .before .before .before .before .narrow .ensures,
       c .before .before .before .before .before .before .word-at4 .ensures,
-      c .before .before .before .before .before .before .before .word-at3 .ensures,
-      c .before .before .before .before .before .before .before .before .case-from .ensures,
-      c .before .before .before .before .before .before .before .before .before .word-at2 .ensures,
-      c .before .before .before .before .before .before .before .before .before .before .indent-from .ensures,
-      c .before .before .before .before .before .before .before .before .before .before .before .word-at .ensures,
+      c .before .before .before .before .before .before .before .inline-from .ensures,
+      c .before .before .before .before .before .before .before .before .word-at3 .ensures,
+      c .before .before .before .before .before .before .before .before .before .case-from .ensures,
+      c .before .before .before .before .before .before .before .before .before .before .word-at2 .ensures,
+      c .before .before .before .before .before .before .before .before .before .before .before .indent-from .ensures,
+      c .before .before .before .before .before .before .before .before .before .before .before .before .word-at .ensures,
     )
 
 pub options-of-spec : {M : Type 1} → statement M
@@ -66,6 +70,7 @@ options-of-spec =
     word-at-requires-2
     case-from-requires
     word-at-requires-3
+    inline-from-requires
     word-at-requires-4
     narrow-requires
     word-at-requires-5

@@ -1,10 +1,10 @@
 use borrow.Author.Needs.{needs}
-use Rattle.report.proofs.SizeLaws.{by-finished, by-trimmed}
+use Rattle.report.proofs.SizeLaws.{loose-held, by-finished, by-trimmed}
 use Rattle.report.proofs.finish.Statement.{statement}
 use Rattle.report.proofs.finish.Tie as tie
 
 trim-all-spaces-end-requires : tie.Need-trim-all-spaces-end-requires
-trim-all-spaces-end-requires c κs = search needs
+trim-all-spaces-end-requires c κs = search (needs, loose-held)
 
 trim-start-requires : tie.Need-trim-start-requires
 trim-start-requires c κs = search needs

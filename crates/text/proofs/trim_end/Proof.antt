@@ -1,18 +1,18 @@
 use borrow.Author.Needs.{needs}
 use borrow.Author.Tests.{not-true, not-false}
 use lib.ListN.{length}
-use Rattle.rules.specs.Text.{change, trimEnd}
+use Rattle.rules.specs.Text.{cut}
 use Rattle.text.specs.Held.{textOf, cutBytes}
 use Rattle.text.proofs.CutLaws.{Cutting, cut-starts, cut-goes, cut-stops, cut-ends}
 use Rattle.text.proofs.trim_end.Statement.{statement}
 use Rattle.text.proofs.trim_end.Tie as tie
 
 abbrev Inv-loop : tie.InvT-loop
-Inv-loop text₀ white fault len₀ text len =
-    Cutting (length text₀) (change (trimEnd (cutBytes white)) (textOf (record { len = len₀; fault = fault }) text₀)) (cutBytes white) len fault text
+Inv-loop text₀ white fault floor len₀ text len =
+    Cutting (length text₀) (cut (cutBytes white) (textOf (record { len = len₀; floor = floor; fault = fault }) text₀)) (cutBytes white) len floor fault text
 
 abbrev μ-loop : tie.MeasureT-loop
-μ-loop text₀ white fault len₀ text len = len
+μ-loop text₀ white fault floor len₀ text len = len
 
 loop-holds : tie.Need-loop-holds Inv-loop μ-loop
 loop-holds c = search (needs, cut-starts)
