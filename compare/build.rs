@@ -6,6 +6,7 @@ use std::{env, fs};
 const PARTS: [&str; 4] = ["formatter", "indentation", "inline_block", "params"];
 const DEFAULTS: &str = "impl<'a> Default for FormatOptions<'a> {";
 const NEXT_TOKEN: &str = "formatter.index = index;";
+const SHOWN: &str = "query.push_str(self.params.get(token));";
 
 fn main() {
     let home = PathBuf::from(env::var_os("CARGO_MANIFEST_DIR").expect("set by cargo"));
@@ -56,10 +57,14 @@ fn module(name: &str, file: &Path) -> String {
 }
 
 /// The unchanged formatter hides its working text. This second copy writes into a text that
-/// keeps its heights, token by token, so that refusal 9 can be held against the Rust too.
+/// keeps its heights, token by token, and the stretches of what placeholders show, so that refusal 9
+/// and the rows can be held against the Rust too.
 fn watch(file: &Path) -> String {
     let text = fs::read_to_string(file).expect("formatter.rs can be read");
-    assert_eq!(text.matches(NEXT_TOKEN).count(), 1, "formatter.rs is not the known one");
-    let marked = format!("{NEXT_TOKEN} formatted_query.at(index);");
-    format!("use crate::watched::String;\n{}", text.replace(NEXT_TOKEN, &marked))
+    for known in [NEXT_TOKEN, SHOWN] {
+        assert_eq!(text.matches(known).count(), 1, "formatter.rs is not the known one");
+    }
+    let text = text.replace(NEXT_TOKEN, &format!("{NEXT_TOKEN} formatted_query.at(index);"));
+    let text = text.replace(SHOWN, &SHOWN.replace("push_str", "show"));
+    format!("use crate::watched::String;\n{text}")
 }

@@ -147,7 +147,7 @@ static void sound(void)
     struct twigmantle_report r = twigmantle_layout(sheet, n, text, sizeof text);
     if (r.refusal >= 1 && r.refusal <= 4)
         wrong("the call refuses what was built with 1 to 4");
-    if (r.refusal == 0 && !is_due(sheet, text, (size_t)r.length))
+    if (r.refusal == 0 && !is_due(sheet, text, (size_t)r.length, NULL))
         wrong("the call lays out what was built as something else");
     texts += r.refusal == 0;
     if (!reads_back())

@@ -1,9 +1,10 @@
-/* Hard use of the calls: sheets whose answer is known; random and damaged sheets, sheets of every length, buffers of every length around the need.
+/* Hard use of the calls: sheets whose answer is known; random and damaged sheets, sheets of every length, buffers and lists of every length around the need.
  *
  *     hard [N [SEED]]        N random sheets (20,000) from a seed (1)
  *
- * The sheet and the buffer of a call lie at the fences of fence.h, in turn in each way that it has; a sheet there may only be read. Every answer is held to
- * judge.h. The first wrong thing is said, its sheet is saved as hard.sheet (compare show reads it), and the program ends with 1. */
+ * The sheet, the buffer and the list of a call lie at the fences of fence.h, in turn in each way that it has; a sheet there may only be read. Every answer is held
+ * to judge.h, and the second call's report and text to the first's. The first wrong thing is said, its sheet is saved as hard.sheet (compare show reads it), and
+ * the program ends with 1. With HARD_WITHOUT_ROWS defined it makes the first call alone. */
 #define _GNU_SOURCE
 #include <fcntl.h>
 #include <inttypes.h>
@@ -14,14 +15,14 @@
 #include "known.h"
 #include "random_sheet.h"
 
-enum { AMPLE = 1 << 16, MOST_ROOM = 1 << 22, LONGER = 64, SECONDS = 60, MANY = 5000 };
+enum { AMPLE = 1 << 16, MOST_ROOM = 1 << 22, MOST_WORDS = TWIGMANTLE_MOST_LIST + 64, LONGER = 64, SECONDS = 60, MANY = 5000 };
 
-static struct pages sheets, texts;
+static struct pages sheets, texts, lists;
 static uint8_t made[LONGEST + LONGER], text_now[MOST_ROOM], text_first[MOST_ROOM];
-static size_t length, room_now; /* of the made sheet, and of the buffer */
+static size_t length, room_now, words_now; /* of the made sheet, of the buffer and of the list */
 static enum where where_now;
 static const char *stage = "the default head";
-static uint64_t turn, calls, too_short, counts[10];
+static uint64_t turn, calls, too_short, short_lists, counts[10];
 
 /* A line put together without stdio, for it may be said in the middle of a call. */
 static char line[512];
@@ -53,6 +54,8 @@ static void wrong(const char *what)
     say_number(length);
     say(" bytes, a buffer of ");
     say_number(room_now);
+    say(", a list of ");
+    say_number(words_now);
     say(", each ");
     say(WHERE[where_now]);
     say(": ");
@@ -86,7 +89,8 @@ static void caught(int number, siginfo_t *info, void *context)
     }
     const char *sheet = beside(&sheets, at, "a byte before the sheet was touched", "the sheet was written to", "a byte after the sheet was touched");
     const char *text = beside(&texts, at, "a byte before the buffer was touched", "the buffer", "a byte after the buffer was touched");
-    wrong(sheet != NULL ? sheet : text != NULL ? text : "a byte far from the sheet and the buffer was touched");
+    const char *list = beside(&lists, at, "a byte before the list was touched", "the list", "a byte after the list was touched");
+    wrong(sheet != NULL ? sheet : text != NULL ? text : list != NULL ? list : "a byte far from what was lent was touched");
 }
 
 /* The numbers go together, the text is what is due, and zero follows it. Lines and width are counted again, so that every byte of the text is read. */
@@ -112,18 +116,142 @@ static const char *fault(struct twigmantle_report r, const uint8_t *text, size_t
     for (size_t i = (size_t)r.length; i < room; i++)
         if (text[i] != 0)
             return "a byte after the text that is not zero";
-    return r.refusal == 0 && !is_due(made, text, (size_t)r.length) ? "a text that is not what is due" : NULL;
+    return r.refusal == 0 && !is_due(made, text, (size_t)r.length, NULL) ? "a text that is not what is due" : NULL;
 }
 
-/* One call on the sheet in `made`; its text is left in `text_now`. */
+/* The sheet in `made`, lent. */
+static uint8_t *lend_sheet(enum where where)
+{
+    uint8_t *sheet = lend(&sheets, length, where);
+    if (length > 0)
+        memcpy(own_of(&sheets, sheet, where), made, length);
+    return sheet;
+}
+
+/* A buffer or a list with something in it; one on the heap is as malloc left it. */
+static uint8_t *lend_painted(const struct pages *pages, size_t n, enum where where)
+{
+    uint8_t *at = lend(pages, n, where);
+    if (where != HEAP)
+        memset(at, (int)under(256), n);
+    return at;
+}
+
+#ifndef HARD_WITHOUT_ROWS
+
+static uint32_t list_now[MOST_WORDS];
+
+static int same_report(struct twigmantle_report r, struct twigmantle_report s)
+{
+    return r.refusal == s.refusal && r.place == s.place && r.length == s.length && r.lines == s.lines && r.width == s.width;
+}
+
+static int is_zero(const uint8_t *at, size_t n)
+{
+    while (n > 0 && at[n - 1] == 0)
+        n--;
+    return n == 0;
+}
+
+/* The words that the list must have: 10 is given after refusals 1 to 4. */
+static size_t words_needed(void)
+{
+    return first_offence(made, length).refusal == 0 ? words_for(made) : 0;
+}
+
+/* What is wrong with the second call's answer: it is the first call's, whose text is in `text_now`; or 10, which leaves everything zero. */
+static const char *rows_fault(struct twigmantle_report r, struct twigmantle_report first, const uint8_t *text, const uint32_t *list)
+{
+    static const struct twigmantle_report refusal_10 = {.refusal = TWIGMANTLE_REFUSAL_LIST};
+    int is_short = words_now < words_needed();
+    if (!same_report(r, is_short ? refusal_10 : first))
+        return is_short ? "a list that is too short, and not refused with 10 at 0" : "not the first call's report";
+    if (memcmp(text, text_now, (size_t)r.length) != 0 || !is_zero(text + r.length, room_now - (size_t)r.length))
+        return "not the first call's text";
+    if (r.refusal != 0)
+        return is_zero((const uint8_t *)list, sizeof *list * words_now) ? NULL : "a list that is not zero on a refusal";
+    return are_due_rows(made, text, (size_t)r.length, list, words_now) ? NULL : "rows that are not what is due";
+}
+
+/* The second call, after the first gave `first` for the same sheet and buffer; its list is left in `list_now`. */
+static void lay_rows(size_t room, size_t words, struct twigmantle_report first)
+{
+    enum where where = calls++ % WAYS;
+    uint8_t *sheet = lend_sheet(where), *text = lend_painted(&texts, room, where);
+    uint32_t *list = (uint32_t *)(void *)lend_painted(&lists, sizeof *list * words, where);
+    room_now = room;
+    words_now = words;
+    where_now = where;
+    struct twigmantle_report r = twigmantle_layout_rows(sheet, length, text, room, list, words);
+    const char *what = rows_fault(r, first, text, list);
+    if (what == NULL && length > 0 && memcmp(sheet, made, length) != 0)
+        what = "the sheet was written to";
+    if (what != NULL)
+        wrong(what);
+    short_lists += r.refusal == TWIGMANTLE_REFUSAL_LIST;
+    memcpy(list_now, list, sizeof *list * words);
+    give_back(sheet, where);
+    give_back(text, where);
+    give_back((uint8_t *)list, where);
+    words_now = 0;
+}
+
+/* A list that just serves, or one that is longer or shorter. */
+static size_t some_words(void)
+{
+    size_t need = words_needed(), some[] = {need, need, need + 1, need + under(60), need - (need > 0), under((uint32_t)need)};
+    return some[under(6)];
+}
+
+/* Lists of every length from 0 to past the need. */
+static void every_list(size_t room, struct twigmantle_report first)
+{
+    for (size_t words = 0, need = words_needed(); words <= need + 8; words++)
+        lay_rows(room, words, first);
+}
+
+/* A list just as long as the known rows, and one that is longer. */
+static void known_rows_are(size_t room, struct twigmantle_report first, const uint32_t *rows, size_t count)
+{
+    size_t words = TWIGMANTLE_ROW_WORDS * count;
+    for (size_t more = 0; more < 9; more += 8) {
+        lay_rows(room, words + more, first);
+        if (count > 0 && memcmp(list_now, rows, sizeof *rows * words) != 0)
+            wrong("other rows than are known");
+        if (words_needed() != words)
+            wrong("more or fewer rows than are known");
+    }
+}
+
+#else
+
+static void lay_rows(size_t room, size_t words, struct twigmantle_report first)
+{
+    (void)room, (void)words, (void)first;
+}
+
+static size_t some_words(void)
+{
+    return 0;
+}
+
+static void every_list(size_t room, struct twigmantle_report first)
+{
+    (void)room, (void)first;
+}
+
+static void known_rows_are(size_t room, struct twigmantle_report first, const uint32_t *rows, size_t count)
+{
+    (void)room, (void)first, (void)rows, (void)count;
+}
+
+#endif
+
+/* Both calls on the sheet in `made`; the text is left in `text_now`. */
 static struct twigmantle_report lay(size_t room)
 {
     enum where where = calls++ % WAYS;
-    uint8_t *sheet = lend(&sheets, length, where), *text = lend(&texts, room, where);
-    if (length > 0)
-        memcpy(own_of(&sheets, sheet, where), made, length);
-    if (where != HEAP)
-        memset(text, (int)under(256), room);
+    uint8_t *sheet = lend_sheet(where), *text = lend_painted(&texts, room, where);
     room_now = room;
     where_now = where;
     struct twigmantle_report r = twigmantle_layout(sheet, length, text, room);
@@ -135,6 +263,7 @@ static struct twigmantle_report lay(size_t room)
     memcpy(text_now, text, (size_t)r.length);
     give_back(sheet, where);
     give_back(text, where);
+    lay_rows(room, some_words(), r);
     return r;
 }
 
@@ -149,6 +278,9 @@ static void expected(const char *name, const struct sheet_plan *plan, size_t roo
             wrong("another number or place than is known");
         if (wanted.text != NULL && (r.length != strlen(wanted.text) || memcmp(text_now, wanted.text, (size_t)r.length) != 0))
             wrong("another text than is known");
+        if (wanted.rows != NULL)
+            known_rows_are(room, r, wanted.rows, wanted.row_count);
+        every_list(room, r);
     }
 }
 
@@ -183,7 +315,7 @@ static uint64_t at_room(size_t room, size_t need, struct twigmantle_report ample
     return room < need ? r.place : UINT64_MAX;
 }
 
-/* Buffers around the need; every length from 0 up for one small text in 16. */
+/* Buffers around the need; every length from 0 up, and lists of every length, for one small text in 16. */
 static void rooms(void)
 {
     struct twigmantle_report ample = lay(AMPLE);
@@ -200,6 +332,7 @@ static void rooms(void)
                 wrong("more room, and an earlier token is refused");
             last = place;
         }
+        every_list(need, lay(need));
     } else {
         size_t some[] = {under(3), under((uint32_t)need), need - (need > 1) - (need > 0), need - (need > 0), need, need + 1, need + under(300)};
         for (size_t i = 0; i < sizeof some / sizeof some[0]; i++)
@@ -280,6 +413,16 @@ static void nulls(void)
     struct twigmantle_report none = twigmantle_layout(NULL, 0, NULL, 0), sheet = twigmantle_layout(NULL, 0, text, 3), room = twigmantle_layout(head, 48, NULL, 0);
     if (none.refusal != 1 || sheet.refusal != 1 || text[0] + text[1] + text[2] != 0 || room.refusal != 0 || twigmantle_default_head(NULL, 0) != 0)
         wrong("another answer than for no bytes");
+#ifndef HARD_WITHOUT_ROWS
+    static const uint8_t placeholder[68] = {[0] = 1, [20] = 2, [48] = TWIGMANTLE_KIND_PLACEHOLDER};
+    uint32_t list[2] = {1, 2};
+    none = twigmantle_layout_rows(NULL, 0, NULL, 0, NULL, 0);
+    sheet = twigmantle_layout_rows(NULL, 0, NULL, 0, list, 2);
+    room = twigmantle_layout_rows(head, 48, NULL, 0, NULL, 0);
+    struct twigmantle_report no_list = twigmantle_layout_rows(placeholder, sizeof placeholder, text, 3, NULL, 0);
+    if (none.refusal != 1 || sheet.refusal != 1 || list[0] + list[1] != 0 || room.refusal != 0 || no_list.refusal != 10 || no_list.place != 0)
+        wrong("another answer than for no words");
+#endif
 }
 
 /* On a stack of its own, so that a call that runs out of stack is told too. */
@@ -310,6 +453,7 @@ int main(int argc, char **argv)
     dice = argc > 2 ? strtoull(argv[2], NULL, 10) : 1;
     sheets = fenced(sizeof made, 0);
     texts = fenced(MOST_ROOM, 1);
+    lists = fenced(MOST_WORDS * sizeof(uint32_t), 1);
     watch();
     alarm(SECONDS);
     heads();
@@ -332,6 +476,6 @@ int main(int argc, char **argv)
     printf("%" PRIu64 " sheets, %" PRIu64 " calls, no fault\nat an ample buffer %" PRIu64 " texts, refusals 1 to 9:", turns, calls, counts[0]);
     for (int i = 1; i < 10; i++)
         printf(" %" PRIu64, counts[i]);
-    printf("\n%" PRIu64 " further buffers too short\n", too_short);
+    printf("\n%" PRIu64 " further buffers and %" PRIu64 " lists too short\n", too_short, short_lists);
     return meets_all(turns) ? 0 : 1;
 }

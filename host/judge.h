@@ -1,5 +1,5 @@
-/* What an answer must be, as far as a small program can say: refusals 1 to 4 exactly; for the others what the token must be; what a text holds without its
- * white bytes; and a buffer that is long enough. By docs/sheet.md and by no code of the library. */
+/* What an answer must be, as far as a small program can say: refusals 1 to 4 and 10 exactly; for the others what the token must be; what a text holds without its
+ * white bytes; the rows, but for where a value stands that is all white; and a buffer that is long enough. By docs/sheet.md and by no code of the library. */
 #ifndef JUDGE_H
 #define JUDGE_H
 
@@ -153,24 +153,74 @@ static int switched(struct value v)
     return memcmp(end, "on", 2) == 0 ? 1 : memcmp(end, "off", 3) == 0 ? 0 : -1;
 }
 
-/* What a placeholder that is laid out shows. */
-static struct value shown(const struct parts *s, size_t token, size_t *counter)
+/* The entry that a placeholder shows that is laid out, or TWIGMANTLE_ENTRY_OWN. */
+static uint32_t entry_of(const struct parts *s, size_t token, size_t *counter)
 {
     size_t at = 48 + 20 * token;
     uint32_t mode = word_at(s->sheet, 16), class = word_at(s->sheet, at) >> 5 & 3, number = word_at(s->sheet, at + 12);
-    struct value own = place_at(s, at + 4), name = class == TWIGMANTLE_KEY_NAMED ? place_at(s, at + 12) : (struct value){NULL, 0};
+    struct value name = class == TWIGMANTLE_KEY_NAMED ? place_at(s, at + 12) : (struct value){NULL, 0};
     if (mode == TWIGMANTLE_MODE_NONE || (mode == TWIGMANTLE_MODE_NAMED && class == TWIGMANTLE_KEY_NONE))
-        return own;
+        return TWIGMANTLE_ENTRY_OWN;
     if (mode == TWIGMANTLE_MODE_NAMED) {
         for (size_t i = 0; i < s->params; i++)
             if (equal(entry_name(s, i), name))
-                return entry_value(s, i);
-        return own;
+                return (uint32_t)i;
+        return TWIGMANTLE_ENTRY_OWN;
     }
     if (name.n > 0)
-        return own;
+        return TWIGMANTLE_ENTRY_OWN;
     size_t entry = class == TWIGMANTLE_KEY_ZERO_INDEXED ? number : class == TWIGMANTLE_KEY_ONE_INDEXED ? (size_t)number - 1 : (*counter)++;
-    return entry < s->params ? entry_value(s, entry) : own;
+    return entry < s->params ? (uint32_t)entry : TWIGMANTLE_ENTRY_OWN;
+}
+
+static int is_all_white(const uint8_t *at, size_t n)
+{
+    for (size_t i = 0; i < n; i++)
+        if (!is_white(at[i]))
+            return 0;
+    return 1;
+}
+
+/* Whether what stands in the text from start to end is the value but for white at its end, and at its start if the text starts there. */
+static int is_left_of(struct value v, const uint8_t *text, size_t start, size_t end)
+{
+    size_t most = start == 0 ? v.n : 0;
+    for (size_t cut = 0; cut <= most && cut + (end - start) <= v.n && is_all_white(v.at, cut); cut++) {
+        struct value left = {v.at + cut, end - start}, there = {text + start, end - start};
+        if (equal(left, there) && is_all_white(left.at + left.n, v.n - cut - left.n))
+            return 1;
+    }
+    return 0;
+}
+
+/* A list that a call gave, and how far it was read. */
+struct list {
+    const uint32_t *words;
+    size_t n, read;
+    uint64_t end; /* of the last row's value, in the text */
+};
+
+/* Whether the next row is this token's: the text before `from` was put there by the tokens before it, that from `to` on by those after it. */
+static int is_next_row(struct list *list, size_t token, uint32_t entry, struct value v, const uint8_t *text, size_t from, size_t to)
+{
+    const uint32_t *row = list->words + list->read;
+    if (list->n - list->read < TWIGMANTLE_ROW_WORDS)
+        return 0;
+    uint64_t start = row[TWIGMANTLE_ROW_BEFORE_LOW] | (uint64_t)row[TWIGMANTLE_ROW_BEFORE_HIGH] << 32, end = start + row[TWIGMANTLE_ROW_SURVIVED];
+    if (row[TWIGMANTLE_ROW_TOKEN] != token || row[TWIGMANTLE_ROW_ENTRY] != entry || start < from || start < list->end || end < start || end > to)
+        return 0;
+    list->read += TWIGMANTLE_ROW_WORDS;
+    list->end = end;
+    return is_left_of(v, text, (size_t)start, (size_t)end);
+}
+
+/* The rows in a list after a text, counted as twigmantle.h says. */
+static inline size_t rows_in(const uint8_t *sheet, const uint32_t *words, size_t n)
+{
+    size_t count = word_at(sheet, 0) > 0 && (word_at(sheet, 48) & 31) == TWIGMANTLE_KIND_PLACEHOLDER;
+    for (size_t i = 0; i + TWIGMANTLE_ROW_WORDS <= n; i += TWIGMANTLE_ROW_WORDS)
+        count += words[i + TWIGMANTLE_ROW_TOKEN] != 0;
+    return count;
 }
 
 static int is_kept_word(const struct parts *s, struct value v)
@@ -217,38 +267,81 @@ static int ends_line(const uint8_t *text, size_t n, size_t at)
     return ends || at == n;
 }
 
-/* The text without its white bytes is the kept tokens in order, each as its own value, in the asked case, or as its parameter; with inline 2 each line comment
- * that is laid out ends its line. */
-static int is_due(const uint8_t *sheet, const uint8_t *text, size_t n)
+/* What the switch makes of a token: -1 nothing is kept of it, 0 it is copied, 1 it is laid out. */
+struct turns {
+    int on, drop;
+};
+
+static int turn_of(struct turns *turns, uint32_t kind, struct value v)
+{
+    int comment = kind == TWIGMANTLE_KIND_LINE_COMMENT || kind == TWIGMANTLE_KIND_BLOCK_COMMENT, now = comment && !turns->drop ? switched(v) : -1;
+    int kept = !turns->drop && now < 0;
+    turns->on = now >= 0 ? now : turns->on;
+    turns->drop = now >= 0;
+    return kept ? turns->on : -1;
+}
+
+/* The words that the rows of a sheet need: five for each placeholder to be laid out. */
+static inline size_t words_for(const uint8_t *sheet)
 {
     struct parts s = parts_of(sheet);
-    size_t at = 0, counter = 0;
-    int on = 1, drop = 0, comments_end_lines = word_at(sheet, 4 * TWIGMANTLE_HEAD_INLINE) == TWIGMANTLE_INLINE_COMMENTS;
+    struct turns turns = {1, 0};
+    size_t count = 0;
     for (size_t i = 0; i < s.tokens; i++) {
-        uint32_t kind = word_at(sheet, 48 + 20 * i) & 31, letter_case = TWIGMANTLE_CASE_AS_IS;
+        uint32_t kind = word_at(sheet, 48 + 20 * i) & 31;
+        count += turn_of(&turns, kind, place_at(&s, 48 + 20 * i + 4)) == 1 && kind == TWIGMANTLE_KIND_PLACEHOLDER;
+    }
+    return TWIGMANTLE_ROW_WORDS * count;
+}
+
+static size_t past_white(const uint8_t *text, size_t n, size_t at)
+{
+    while (at < n && is_white(text[at]))
+        at++;
+    return at;
+}
+
+/* The text without its white bytes is the kept tokens in order, each as its own value, in the asked case, or as its parameter; with inline 2 each line comment
+ * that is laid out ends its line. If there is a list, it has a row for each placeholder that is laid out. */
+static int is_due(const uint8_t *sheet, const uint8_t *text, size_t n, struct list *list)
+{
+    struct parts s = parts_of(sheet);
+    struct turns turns = {1, 0};
+    size_t at = 0, counter = 0;
+    int comments_end_lines = word_at(sheet, 4 * TWIGMANTLE_HEAD_INLINE) == TWIGMANTLE_INLINE_COMMENTS;
+    for (size_t i = 0; i < s.tokens; i++) {
+        uint32_t kind = word_at(sheet, 48 + 20 * i) & 31, letter_case = TWIGMANTLE_CASE_AS_IS, entry = TWIGMANTLE_ENTRY_OWN;
         struct value v = place_at(&s, 48 + 20 * i + 4);
-        int comment = kind == TWIGMANTLE_KIND_LINE_COMMENT || kind == TWIGMANTLE_KIND_BLOCK_COMMENT, now = comment && !drop ? switched(v) : -1;
-        if (drop || now >= 0) {
-            on = now >= 0 ? now : on;
-            drop = now >= 0;
-            continue;
-        }
-        if (on && kind == TWIGMANTLE_KIND_WHITESPACE)
+        int turn = turn_of(&turns, kind, v), on = turn == 1;
+        size_t from = at;
+        if (turn < 0 || (on && kind == TWIGMANTLE_KIND_WHITESPACE))
             continue;
         if (on && is_nought(&s, i))
             return 0; /* refusal 5 was due */
-        if (on && kind == TWIGMANTLE_KIND_PLACEHOLDER)
-            v = shown(&s, i, &counter);
+        if (on && kind == TWIGMANTLE_KIND_PLACEHOLDER && (entry = entry_of(&s, i, &counter)) != TWIGMANTLE_ENTRY_OWN)
+            v = entry_value(&s, entry);
         if (on && has_case(kind) && !is_kept_word(&s, v))
             letter_case = word_at(sheet, 4 * TWIGMANTLE_HEAD_CASE);
         if (!follows(v, letter_case, text, n, &at))
             return 0;
+        if (on && kind == TWIGMANTLE_KIND_PLACEHOLDER && list != NULL && !is_next_row(list, i, entry, v, text, from, past_white(text, n, at)))
+            return 0;
         if (on && kind == TWIGMANTLE_KIND_LINE_COMMENT && comments_end_lines && !ends_line(text, n, at))
             return 0;
     }
-    while (at < n && is_white(text[at]))
-        at++;
-    return at == n;
+    return past_white(text, n, at) == n;
+}
+
+/* After a text: a row for each placeholder laid out, in order, zero after them, and as many as twigmantle.h lets a host count. */
+static inline int are_due_rows(const uint8_t *sheet, const uint8_t *text, size_t length, const uint32_t *words, size_t n)
+{
+    struct list list = {words, n, 0, 0};
+    if (!is_due(sheet, text, length, &list) || rows_in(sheet, words, n) * TWIGMANTLE_ROW_WORDS != list.read)
+        return 0;
+    for (size_t i = list.read; i < n; i++)
+        if (words[i] != 0)
+            return 0;
+    return 1;
 }
 
 /* A buffer that refusal 9 is never given for: for each token its bytes, 3, two indents at the greatest depth, and for each line feed in it one indent and 1; at

@@ -4,19 +4,24 @@
 
 #include "builder.h"
 
-/* The text, or a refusal. */
+/* The text, or a refusal; the rows of the text, where they are given. */
 struct wanted {
     const char *text;
     uint32_t refusal;
     uint64_t place;
+    const uint32_t *rows;
+    size_t row_count;
 };
 
 typedef void expect(const char *name, const struct sheet_plan *plan, size_t room, struct wanted wanted);
 
 enum { PLENTY = 65536 };
 
-#define TEXT(t) ((struct wanted){t, 0, 0})
-#define REFUSAL(number, place) ((struct wanted){NULL, number, place})
+#define TEXT(t) ((struct wanted){t, 0, 0, NULL, 0})
+#define REFUSAL(number, place) ((struct wanted){NULL, number, place, NULL, 0})
+#define ROWS(t, ...) \
+    ((struct wanted){t, 0, 0, (const uint32_t[]){__VA_ARGS__}, sizeof((const uint32_t[]){__VA_ARGS__}) / sizeof(uint32_t) / TWIGMANTLE_ROW_WORDS})
+#define OWN TWIGMANTLE_ENTRY_OWN
 #define LIST(a) (a), sizeof(a) / sizeof((a)[0])
 #define VALUE(s) {s, sizeof(s) - 1}
 #define TOKEN(k, s) {.kind = TWIGMANTLE_KIND_##k, .value = VALUE(s)}
@@ -119,18 +124,48 @@ static void known_placeholders(expect *expect)
     static const struct sheet_param list[] = {{.value = VALUE("7")}, {.value = VALUE("12")}};
     static const struct sheet_param names[] = {{VALUE("line"), VALUE("3")}, {VALUE("line"), VALUE("4")}};
     struct sheet_plan plan = filled(LIST(three), TWIGMANTLE_MODE_INDEXED, LIST(list));
-    expect("placeholders in turn", &plan, PLENTY, TEXT("7 12 ?"));
+    expect("placeholders in turn", &plan, PLENTY, ROWS("7 12 ?", 0, 0, 0, 0, 1, 1, 1, 2, 0, 2, 2, OWN, 5, 0, 1));
     plan = filled(LIST(off), TWIGMANTLE_MODE_INDEXED, LIST(list));
-    expect("a placeholder switched off", &plan, PLENTY, TEXT("?x7"));
+    expect("a placeholder switched off", &plan, PLENTY, ROWS("?x7", 6, 0, 2, 0, 1));
     plan = filled(LIST(named), TWIGMANTLE_MODE_NAMED, LIST(names));
-    expect("the first of two names", &plan, PLENTY, TEXT("3"));
+    expect("the first of two names", &plan, PLENTY, ROWS("3", 0, 0, 0, 0, 1));
     plan = filled(from_one, 2, TWIGMANTLE_MODE_INDEXED, LIST(list));
-    expect("numbers", &plan, PLENTY, TEXT("12 7"));
+    expect("numbers", &plan, PLENTY, ROWS("12 7", 0, 1, 0, 0, 2, 1, 0, 3, 0, 1));
     plan.token_count = 3;
     expect("a number from one that is 0", &plan, PLENTY, REFUSAL(5, 2));
     plan.mode = TWIGMANTLE_MODE_NONE;
     plan.param_count = 0;
     expect("the same with no parameters", &plan, PLENTY, TEXT("$2 ?0 $0"));
+}
+
+static const struct sheet_token MARKS[] = {TOKEN(PLACEHOLDER, "?"), TOKEN(PLACEHOLDER, "?"), TOKEN(PLACEHOLDER, "?")};
+
+/* What is left of values with white ends, and where. */
+static void known_cuts(expect *expect)
+{
+    static const struct sheet_param white[] = {{.value = VALUE(" \n")}, {.value = VALUE("x")}}, ends[] = {{.value = VALUE("ab\n ")}};
+    static const struct sheet_param blank[] = {{.value = VALUE(" ")}}, empty[] = {{.value = VALUE("")}}, feed[] = {{.value = VALUE("\n")}};
+    static const struct sheet_token comma[] = {TOKEN(PLACEHOLDER, "?"), TOKEN(OPERATOR, ","), TOKEN(WORD, "c")};
+    static const struct sheet_token dot[] = {TOKEN(WORD, "a"), TOKEN(PLACEHOLDER, "?"), TOKEN(OPERATOR, ".")};
+    static const struct sheet_token typed[] = {TOKEN(WORD, "a"), TOKEN(PLACEHOLDER, "?"), TOKEN(PLACEHOLDER, " "), TOKEN(TYPE_SPECIFIER, "::t")};
+    static const struct sheet_token noted[] = {TOKEN(WORD, "a"), TOKEN(OPERATOR, ","), TOKEN(PLACEHOLDER, "?"), TOKEN(LINE_COMMENT, "-- c")};
+    static const struct sheet_token closed[] = {TOKEN(LINE_COMMENT, "-- c"), TOKEN(PLACEHOLDER, "?"), TOKEN(TYPE_SPECIFIER, "::t")};
+    struct sheet_plan plan = filled(MARKS, 2, TWIGMANTLE_MODE_INDEXED, LIST(white));
+    expect("white, then x", &plan, PLENTY, ROWS("x", 0, 0, 0, 0, 0, 1, 1, 0, 0, 1));
+    plan = filled(LIST(comma), TWIGMANTLE_MODE_INDEXED, LIST(ends));
+    expect("white before a comma", &plan, PLENTY, ROWS("ab\n,\nc", 0, 0, 0, 0, 3));
+    plan = filled(LIST(dot), TWIGMANTLE_MODE_INDEXED, LIST(blank));
+    expect("nothing left before a dot", &plan, PLENTY, ROWS("a.", 1, 0, 1, 0, 0));
+    plan = filled(LIST(typed), TWIGMANTLE_MODE_INDEXED, LIST(feed));
+    expect("two cut by a type specifier", &plan, PLENTY, ROWS("a::t", 1, 0, 1, 0, 0, 2, OWN, 1, 0, 0));
+    plan = filled(LIST(noted), TWIGMANTLE_MODE_INDEXED, LIST(feed));
+    expect("cut by a comment after a comma", &plan, PLENTY, ROWS("a,  -- c", 2, 0, 2, 0, 0));
+    plan = filled(MARKS, 1, TWIGMANTLE_MODE_INDEXED, LIST(empty));
+    expect("five zero words", &plan, PLENTY, ROWS("", 0, 0, 0, 0, 0));
+    plan = filled(LIST(closed), TWIGMANTLE_MODE_INDEXED, LIST(feed));
+    expect("after a comment", &plan, PLENTY, ROWS("-- c::t", 1, 0, 4, 0, 0));
+    plan.options.one_line = TWIGMANTLE_INLINE_COMMENTS;
+    expect("after a held line feed", &plan, PLENTY, ROWS("-- c\n::t", 1, 0, 5, 0, 0));
 }
 
 static void known_brackets(expect *expect)
@@ -167,6 +202,7 @@ static void known_sheets(expect *expect)
     known_words(expect);
     known_comments(expect);
     known_placeholders(expect);
+    known_cuts(expect);
     known_brackets(expect);
 }
 

@@ -9,6 +9,7 @@
 enum {
     LONGEST = TWIGMANTLE_MOST_SHEET,
     TYPE_SPECIFIER = TWIGMANTLE_KIND_TYPE_SPECIFIER,
+    OPERATOR = TWIGMANTLE_KIND_OPERATOR,
     RESERVED = TWIGMANTLE_KIND_RESERVED,
     TOP_LEVEL = TWIGMANTLE_KIND_RESERVED_TOP_LEVEL,
     OPEN = TWIGMANTLE_KIND_OPEN_PAREN,
@@ -84,14 +85,17 @@ static void put_place(uint8_t *sheet, size_t at, const struct bodies *b)
     put(sheet, at + 4, length);
 }
 
-/* What a sheet is mostly made of: any kinds, brackets that go deep (refusal 6), top-level words with blocks that fold (refusal 8), or line comments with what
- * could cut the end of their line. */
-enum mix { ANY, DEEP, FOLDS, COMMENTS };
+/* What a sheet is mostly made of: any kinds, brackets that go deep (refusal 6), top-level words with blocks that fold (refusal 8), line comments with what could cut
+ * the end of their line, or placeholders with what could cut the end of their values. */
+enum mix { ANY, DEEP, FOLDS, COMMENTS, VALUES };
 
 static void put_token(uint8_t *sheet, size_t at, const struct bodies *b, enum mix mix)
 {
     static const uint32_t folds[] = {TOP_LEVEL, OPEN, WORD, CLOSE}, comments[] = {LINE_COMMENT, TYPE_SPECIFIER, WORD, TOP_LEVEL, OPEN};
-    uint32_t kind = mix == DEEP && !one_in(8) ? OPEN : mix == FOLDS ? folds[at / 20 % 4] : mix == COMMENTS && !one_in(6) ? comments[under(5)] : under(KINDS);
+    static const uint32_t values[] = {PLACEHOLDER, PLACEHOLDER, OPERATOR, TYPE_SPECIFIER, LINE_COMMENT};
+    uint32_t kind = mix == DEEP && !one_in(8) ? OPEN : mix == FOLDS ? folds[at / 20 % 4] : under(KINDS);
+    if ((mix == COMMENTS || mix == VALUES) && !one_in(6))
+        kind = (mix == COMMENTS ? comments : values)[under(5)];
     uint32_t class = under(4), create = one_in(mix == FOLDS ? 2 : 8);
     put(sheet, at, kind | class << 5 | create << 7);
     put_place(sheet, at + 4, b);
@@ -117,7 +121,7 @@ static void put_head(uint8_t *sheet, const uint32_t counts[4], uint32_t mode, en
 /* A sheet that checks 1 to 4 pass, the counts at their bounds for one in 500; its length. */
 static inline size_t random_sheet(uint8_t *sheet)
 {
-    enum mix mix = one_in(20) ? DEEP : one_in(12) ? FOLDS : one_in(8) ? COMMENTS : ANY;
+    enum mix mix = one_in(20) ? DEEP : one_in(12) ? FOLDS : one_in(8) ? COMMENTS : one_in(6) ? VALUES : ANY;
     int full = one_in(500);
     uint32_t mode = full ? 1 + under(2) : under(3);
     uint32_t n = full ? (uint32_t)TWIGMANTLE_MOST_TOKENS : mix == DEEP ? 100 + under(200) : under(one_in(20) ? 300 : 24);

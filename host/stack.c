@@ -2,6 +2,8 @@
  *
  *     stack [N [SEED]]       the sheets below, then N random ones (2,000) from a seed (1)
  *
+ * Built with STACK_OF_ROWS defined it measures the second call, with a list that is never too short.
+ *
  * Counted from the caller's stack pointer at the call down to the lowest byte written: the return address, the library's frames, and those of memcpy and
  * memset. It is exact for the sheets that are run: the stack is painted twice, the second time with each bit turned, so that a written byte shows in one of the
  * two. A byte that no sheet run here makes the call write is not seen. */
@@ -16,7 +18,18 @@
 static const uint64_t PAINT = 0x0123456789abcdef;
 enum { STACK = 1 << 14, ROOM = 1 << 16, CREATE = TWIGMANTLE_PACKED_CREATE, FROM_ONE = TWIGMANTLE_KEY_ONE_INDEXED << TWIGMANTLE_PACKED_CLASS_SHIFT };
 
-typedef struct twigmantle_report layout_call(const uint8_t *sheet, size_t n, uint8_t *text, size_t room);
+#ifdef STACK_OF_ROWS
+#define LAYOUT twigmantle_layout_rows
+#define LIST , uint32_t *list, size_t words
+#define LENT_LIST , rows, TWIGMANTLE_MOST_LIST
+static uint32_t rows[TWIGMANTLE_MOST_LIST];
+#else
+#define LAYOUT twigmantle_layout
+#define LIST
+#define LENT_LIST
+#endif
+
+typedef struct twigmantle_report layout_call(const uint8_t *sheet, size_t n, uint8_t *text, size_t room LIST);
 
 struct token {
     uint32_t packed;
@@ -33,13 +46,16 @@ static ucontext_t home, away;
 
 static void on_stack(void)
 {
-    report = called(sheet, length, text, room);
+    report = called(sheet, length, text, room LENT_LIST);
 }
 
 /* In the call's place: below the caller's stack pointer lie the return address and the frame pointer that was saved. */
-__attribute__((noinline)) static struct twigmantle_report probe(const uint8_t *s, size_t n, uint8_t *t, size_t r)
+__attribute__((noinline)) static struct twigmantle_report probe(const uint8_t *s, size_t n, uint8_t *t, size_t r LIST)
 {
     (void)s, (void)n, (void)t, (void)r;
+#ifdef STACK_OF_ROWS
+    (void)list, (void)words;
+#endif
     caller = (uintptr_t)__builtin_frame_address(0) + 16;
     return (struct twigmantle_report){0, 0, 0, 0, 0};
 }
@@ -66,7 +82,7 @@ static uintptr_t lowest(layout_call *call, uint64_t paint)
 
 static size_t depth(void)
 {
-    uintptr_t first = lowest(twigmantle_layout, PAINT), second = lowest(twigmantle_layout, ~PAINT);
+    uintptr_t first = lowest(LAYOUT, PAINT), second = lowest(LAYOUT, ~PAINT);
     return caller - (first < second ? first : second);
 }
 

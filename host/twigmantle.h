@@ -2,10 +2,11 @@
  *
  * Link libtwigmantle.a (rt staticlib twigmantle; x86-64). It may call memcpy, memmove and memset, and nothing else; it allocates nothing.
  *
- * Pointers. Each must be good for the length given with it, and may be null where that length is 0. The sheet is only read. The sheet and the buffer may not
- * overlap, and no one else may write to either during the call.
+ * Pointers. Each must be good for the length given with it, and may be null where that length is 0. The sheet is only read. The sheet, the buffer and the list may
+ * not overlap, and no one else may write to any of them during the call.
  *
- * Threads. The library keeps no state between calls or across them: any number of threads may call at once, each with a buffer of its own. Sheets may be shared. */
+ * Threads. The library keeps no state between calls or across them: any number of threads may call at once, each with a buffer and a list of its own. Sheets may be
+ * shared. */
 #ifndef TWIGMANTLE_H
 #define TWIGMANTLE_H
 
@@ -19,7 +20,7 @@
 extern "C" {
 #endif
 
-/* What the layout call gives back. refusal 0: the text stands at the buffer's start, zero bytes after it, and place is 0. Otherwise place says where,
+/* What a layout call gives back. refusal 0: the text stands at the buffer's start, zero bytes after it, and place is 0. Otherwise place says where,
  * length, lines and width are 0, and the buffer is all zero. */
 struct twigmantle_report {
     uint32_t refusal; /* enum twigmantle_refusal */
@@ -32,6 +33,19 @@ struct twigmantle_report {
 /* Lays out the sheet of n bytes into text, a buffer of room bytes.
  * n 0: refusal 1 at 0. room 0: the empty text if nothing was to be written, else a refusal; no byte is written. */
 struct twigmantle_report twigmantle_layout(const uint8_t *sheet, size_t n, uint8_t *text, size_t room);
+
+/* Does the same, with the same report and the same bytes in text, and lists in rows, a list of so many words, which parameter stands where: a row of
+ * TWIGMANTLE_ROW_WORDS words (enum twigmantle_row) for each placeholder laid out, in the order of the tokens, and zero after the last row. A placeholder that is
+ * switched off or dropped has no row. On a refusal the whole list is zero.
+ *
+ * Refusal 10 is this call's alone: fewer words than all those rows need. It comes after 4 and before any token is laid out: it counts the placeholders after a
+ * token that would be refused too. A list of TWIGMANTLE_MOST_LIST words is never too short. words 0, and rows may be null: serves a sheet that has no placeholder to
+ * lay out; for any other 10 at 0. n 0 and room 0 are as above.
+ *
+ * How many rows. A row can be five zero words (token 0 shows entry 0, and nothing of it is left), so the list does not end at the first zero. But the tokens of
+ * the rows rise, and token 0 has a row exactly if it is a placeholder. So after a text count the rows whose token is not 0, and one more if token 0 of the sheet
+ * is a placeholder. */
+struct twigmantle_report twigmantle_layout_rows(const uint8_t *sheet, size_t n, uint8_t *text, size_t room, uint32_t *rows, size_t words);
 
 /* Writes the default head into out, n bytes: its 48 bytes, zero after them, and gives 48. An out under 48 bytes becomes zero, and it gives 0; n 0 too. */
 size_t twigmantle_default_head(uint8_t *out, size_t n);
@@ -48,7 +62,7 @@ typedef char twigmantle_report_has_lines_at_24[offsetof(struct twigmantle_report
 typedef char twigmantle_report_has_width_at_32[offsetof(struct twigmantle_report, width) == 32 ? 1 : -1];
 typedef char twigmantle_lengths_have_64_bits[sizeof(size_t) == 8 && sizeof(void *) == 8 ? 1 : -1];
 
-/* Refusals, and what the place counts: bytes of the sheet up to TWIGMANTLE_REFUSAL_BYTE, tokens from there on. */
+/* Refusals, and what the place counts: bytes of the sheet up to TWIGMANTLE_REFUSAL_BYTE, tokens up to TWIGMANTLE_REFUSAL_ROOM. */
 enum twigmantle_refusal {
     TWIGMANTLE_REFUSAL_NONE = 0,
     TWIGMANTLE_REFUSAL_SIZE = 1,   /* under 48 bytes, a count over its bound, or a length that the counts do not give; place 0 */
@@ -59,8 +73,21 @@ enum twigmantle_refusal {
     TWIGMANTLE_REFUSAL_INDENT = 6, /* one more entry on the indent stack than TWIGMANTLE_MOST_DEPTH */
     TWIGMANTLE_REFUSAL_INLINE = 7, /* one more open inline block than that */
     TWIGMANTLE_REFUSAL_FOLDED = 8, /* a folded block closed with no unfolded entry left */
-    TWIGMANTLE_REFUSAL_ROOM = 9    /* the working text would be longer than the buffer */
+    TWIGMANTLE_REFUSAL_ROOM = 9,   /* the working text would be longer than the buffer */
+    TWIGMANTLE_REFUSAL_LIST = 10   /* fewer than TWIGMANTLE_ROW_WORDS words for each placeholder to be laid out; place 0; of twigmantle_layout_rows alone */
 };
+
+/* A row of the list, by word: where a placeholder's value stands in the text. */
+enum twigmantle_row {
+    TWIGMANTLE_ROW_TOKEN = 0,       /* the placeholder's number */
+    TWIGMANTLE_ROW_ENTRY = 1,       /* the entry's number, counted from nought, or TWIGMANTLE_ENTRY_OWN */
+    TWIGMANTLE_ROW_BEFORE_LOW = 2,  /* the bytes of the text before the value, modulo 2^32 */
+    TWIGMANTLE_ROW_BEFORE_HIGH = 3, /* the same, divided by 2^32 */
+    TWIGMANTLE_ROW_SURVIVED = 4,    /* how many bytes of the value are in the text: white at its ends may have been cut, all of it too */
+    TWIGMANTLE_ROW_WORDS = 5
+};
+
+#define TWIGMANTLE_ENTRY_OWN 0xffffffffu /* no entry: the token's own value was shown */
 
 /* The sheet: a head, records, bodies. Words are 32 bits, the low byte first. */
 enum twigmantle_size { /* in bytes */
@@ -80,6 +107,7 @@ enum twigmantle_most {
     TWIGMANTLE_MOST_SPACES = 255, /* word TWIGMANTLE_HEAD_INDENT; one more is TWIGMANTLE_INDENT_TABS */
     TWIGMANTLE_MOST_LINES = 255,  /* word TWIGMANTLE_HEAD_LINES */
     TWIGMANTLE_MOST_DEPTH = 128,  /* entries on the indent stack; open inline blocks */
+    TWIGMANTLE_MOST_LIST = 5120,  /* words of a list with a row for each of TWIGMANTLE_MOST_TOKENS */
     TWIGMANTLE_MOST_SHEET = 57904 /* bytes of a sheet with every count at its bound */
 };
 

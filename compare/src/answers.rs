@@ -18,7 +18,8 @@ pub fn run(n: u64, seed: u64, file: &str) -> bool {
     let small = (0..n).map(|turn| table::row(&mut Dice::new(seed, turn)));
     let any = (0..n).filter_map(|turn| any_make(&mut Dice::new(seed + 1, turn), random::make));
     let two = (0..n).map(|turn| table::row_at_two(&mut Dice::new(seed + 2, turn)));
-    let more = (0..n).filter_map(|turn| any_make(&mut Dice::new(seed + 3, turn), random::make_any));
+    let more =
+        (0..n).filter_map(|turn| any_make(&mut Dice::new(seed + 3, turn), random::make_at_any));
     let more = more.filter(|row| !oracle::judges(&row.bytes));
     let all = judged(starred::sheets()).chain(small).chain(any).chain(two).chain(more);
     let (rusts, modelled): (Vec<Row>, Vec<Row>) = all.partition(|row| oracle::judges(&row.bytes));

@@ -1,12 +1,14 @@
 //! The proved calls, linked from the static library.
 
+#[cfg(feature = "rows")]
+use crate::model::Listed;
 use crate::model::{Answer, Refusal};
 use crate::sheet::NONE;
 use crate::{FormatOptions, Indent};
 
 /// As `host/twigmantle.h` declares it.
 #[repr(C)]
-#[derive(Debug, Clone, Copy)]
+#[derive(Debug, Clone, Copy, PartialEq, Eq)]
 pub struct Report {
     pub refusal: u32,
     pub place: u64,
@@ -24,6 +26,15 @@ mod linked {
             room: usize,
         ) -> super::Report;
         pub fn twigmantle_default_head(out: *mut u8, n: usize) -> usize;
+        #[cfg(feature = "rows")]
+        pub fn twigmantle_layout_rows(
+            sheet: *const u8,
+            n: usize,
+            text: *mut u8,
+            room: usize,
+            rows: *mut u32,
+            words: usize,
+        ) -> super::Report;
     }
 }
 
@@ -32,12 +43,55 @@ pub fn layout(sheet: &[u8], text: &mut [u8]) -> Report {
     unsafe { linked::twigmantle_layout(sheet.as_ptr(), sheet.len(), text.as_mut_ptr(), text.len()) }
 }
 
+#[cfg(feature = "rows")]
+pub fn layout_rows(sheet: &[u8], text: &mut [u8], rows: &mut [u32]) -> Report {
+    let (n, room, words) = (sheet.len(), text.len(), rows.len());
+    // Safe: all three slices are as long as is said, and two are lent to this call alone.
+    unsafe {
+        linked::twigmantle_layout_rows(
+            sheet.as_ptr(),
+            n,
+            text.as_mut_ptr(),
+            room,
+            rows.as_mut_ptr(),
+            words,
+        )
+    }
+}
+
 const PAINT: u8 = 0xa5;
 
 /// What the call gives at this room; an error if it left a byte or a count that it may not leave.
 pub fn answer(sheet: &[u8], room: usize) -> Result<Answer, String> {
     let mut buffer = vec![PAINT; room + 1];
     let report = layout(sheet, &mut buffer[..room]);
+    read(report, &buffer, room)
+}
+
+/// What the second call gives at this room and list. Unless it gives 10, its report and its buffer
+/// must be the first call's; words beside the list must stay.
+#[cfg(feature = "rows")]
+pub fn listed(sheet: &[u8], room: usize, words: usize) -> Result<Listed, String> {
+    const BESIDE: usize = 8;
+    const WORD: u32 = 0xa5a5_5a5a;
+    let mut buffer = vec![PAINT; room + 1];
+    let mut list = vec![WORD; BESIDE + words + BESIDE];
+    let report = layout_rows(sheet, &mut buffer[..room], &mut list[BESIDE..BESIDE + words]);
+    let beside = list[..BESIDE].iter().chain(&list[BESIDE + words..]);
+    if beside.into_iter().any(|&word| word != WORD) {
+        return Err(format!("the second call wrote beside a list of {words}: {report:?}"));
+    }
+    let mut first = vec![PAINT; room + 1];
+    let same = layout(sheet, &mut first[..room]) == report && first == buffer;
+    if report.refusal != 10 && !same {
+        return Err(format!("the second call's report or buffer is not the first's: {report:?}"));
+    }
+    let answer = read(report, &buffer, room)?;
+    Ok(Listed { answer, list: list[BESIDE..BESIDE + words].to_vec() })
+}
+
+/// The answer in a report and a painted buffer that is one byte longer than its room.
+fn read(report: Report, buffer: &[u8], room: usize) -> Result<Answer, String> {
     let Report { refusal, place, length, lines, width } = report;
     let [place, length, lines, width] = [place, length, lines, width].map(|n| n as usize);
     let text = buffer.get(..length).filter(|_| length <= room);

@@ -3,8 +3,9 @@
 use std::collections::BTreeMap;
 use std::fs;
 
-use crate::model::{self, Answer, Refusal, Trial};
+use crate::model::{self, Answer, Refusal, Row, Trial, WORDS};
 use crate::oracle::{self, Panic, Read};
+use crate::pointed;
 use crate::random::{self, Dice, Made, noise, white};
 use crate::sheet::{INLINE_ON, NAMES, Reader, Sheet};
 use crate::watched;
@@ -59,8 +60,12 @@ pub fn run(n: u64, seed: u64) -> bool {
                 return Err(format!("at {room}, by the heights: {expected:?}"));
             }
             call(&made.bytes, &ample, room)?;
+            let pointed = pointed::judged(&made.bytes, &ample)?;
+            tally.add("a rows judged by", pointed);
+            pointed::call(&made.bytes, &ample, room)?;
             if turn % EVERY == 0 {
                 every_room(&mut tally, &made.bytes, &ample)?;
+                every_list(&mut tally, &made.bytes, &ample, room)?;
                 every_length(&mut tally, &made)?;
             }
             Ok(how)
@@ -79,7 +84,11 @@ pub fn run(n: u64, seed: u64) -> bool {
     }
     tally.print();
     println!("each length from 0 to {} is met {} times or more", noise::LONGEST, least(&lengths));
-    let with = if cfg!(feature = "call") { ", the call too" } else { "" };
+    let with = match (cfg!(feature = "call"), cfg!(feature = "rows")) {
+        (_, true) => ", both calls too",
+        (true, _) => ", the call too",
+        _ => "",
+    };
     println!("{n} sheets, seed {seed}{with}: no difference");
     true
 }
@@ -226,7 +235,7 @@ fn before(rust: &[Height], model: &[Height]) -> Result<(), String> {
 }
 
 /// The answer at this buffer, worked out again from the heights at an ample one.
-fn at_room(ample: &Trial, room: usize) -> Answer {
+pub fn at_room(ample: &Trial, room: usize) -> Answer {
     match ample.heights.iter().find(|height| height.peak > room) {
         Some(height) => Answer::Refused(Refusal { number: 9, place: height.token }),
         None => ample.answer.clone(),
@@ -258,7 +267,22 @@ fn every_room(tally: &mut Tally, bytes: &[u8], ample: &Trial) -> Result<(), Stri
     }
     tally.add("7 tried throughout", "sheets with every buffer");
     tally.add_many("7 tried throughout", "buffers", rooms as u64 + 1);
-    (0..=rooms).try_for_each(|room| call_at(bytes, ample, room))
+    let words = WORDS * ample.placeholders;
+    (0..=rooms).try_for_each(|room| {
+        call_at(bytes, ample, room)?;
+        pointed::call_at(bytes, ample, room, words)
+    })
+}
+
+/// Lists of every length from 0 up, where few words are needed.
+fn every_list(tally: &mut Tally, bytes: &[u8], ample: &Trial, room: usize) -> Result<(), String> {
+    let most = WORDS * ample.placeholders + 8;
+    if most > 200 {
+        return Ok(());
+    }
+    tally.add("7 tried throughout", "sheets with every list");
+    tally.add_many("7 tried throughout", "lists", most as u64 + 1);
+    (0..=most).try_for_each(|words| pointed::call_at(bytes, ample, room, words))
 }
 
 /// A whole sheet cut to every length, and drawn out: by document 01 its size is then wrong.
@@ -270,15 +294,16 @@ fn every_length(tally: &mut Tally, made: &Made) -> Result<(), String> {
     tally.add("7 tried throughout", "sheets of every length");
     tally.add_many("7 tried throughout", "lengths", longest as u64);
     let bytes: Vec<u8> = made.bytes.iter().copied().cycle().take(longest).collect();
-    let refused = Answer::Refused(Refusal { number: 1, place: 0 });
-    let refused = Trial { answer: refused, heights: Vec::new(), handlers: Vec::new() };
+    let refused = Trial::refused(Refusal { number: 1, place: 0 });
     let mut others = (0..=longest).filter(|&length| length != whole);
     others.try_for_each(|length| {
         let cut = &bytes[..length];
         if model::answer(cut, 0) != refused.answer {
             return Err(format!("the model, cut to {length}"));
         }
-        call_at(cut, &refused, length % 70).map_err(|said| format!("cut to {length}: {said}"))
+        let told = |said| format!("cut to {length}: {said}");
+        call_at(cut, &refused, length % 70).map_err(told)?;
+        pointed::call_at(cut, &refused, length % 70, length % 12).map_err(told)
     })
 }
 
@@ -301,7 +326,26 @@ fn note(tally: &mut Tally, made: &Made, ample: &Trial, answer: &Answer, how: &'s
                 _ => {}
             }
         }
+        ample.rows.iter().for_each(|row| note_row(tally, sheet, row));
     }
+}
+
+fn note_row(tally: &mut Tally, sheet: &Sheet, row: &Row) {
+    let mut add = |met: bool, what: &'static str| {
+        if met {
+            tally.add("b rows", what);
+        }
+    };
+    let own = &sheet.tokens[row.token].value;
+    let value = row.entry.map_or(own, |entry| &sheet.params[entry].value);
+    add(true, "rows");
+    add(row.entry.is_none(), "of the token's own value");
+    add(row.entry.is_some() && value == own, "of an entry that equals it");
+    add(value.is_empty(), "of an empty value");
+    add(!value.is_empty() && white::is_white(value), "of a white value");
+    add(row.survived == 0 && !value.is_empty(), "of which nothing is left");
+    add(row.survived > 0 && row.survived < value.len(), "of which some is left");
+    add(*row == Row { token: 0, entry: Some(0), before: 0, survived: 0 }, "of five zero words");
 }
 
 /// Its value, where the sheet passes checks 1 to 4.

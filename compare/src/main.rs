@@ -7,6 +7,7 @@ mod call;
 mod check;
 mod model;
 mod oracle;
+mod pointed;
 mod random;
 mod samples;
 mod sheet;

@@ -1,13 +1,15 @@
-//! Document 01 as plain Rust: from a sheet and the buffer's length to the answer.
+//! Documents 01 and 02 as plain Rust: from a sheet, the buffer's length and the list's to the answer.
 //!
 //! Shares no code with the judge: it reads the sheet's bytes by itself and keeps its own stacks.
 
 mod ahead;
 mod checks;
 mod layout;
+mod rows;
 mod text;
 
-use crate::watched::Height;
+use crate::watched::{Height, Stretch};
+pub use rows::{Row, WORDS, list};
 
 #[derive(Debug, Clone, Copy, PartialEq, Eq)]
 pub struct Refusal {
@@ -26,6 +28,32 @@ pub struct Trial {
     pub answer: Answer,
     pub heights: Vec<Height>,
     pub handlers: Vec<&'static str>,
+    /// Of the text; none on a refusal.
+    pub rows: Vec<Row>,
+    /// The same, found by other means.
+    pub stretches: Vec<Stretch>,
+    /// The placeholders to be laid out; none on refusals 1 to 4.
+    pub placeholders: usize,
+}
+
+impl Trial {
+    pub fn refused(refusal: Refusal) -> Self {
+        Trial {
+            answer: Answer::Refused(refusal),
+            heights: Vec::new(),
+            handlers: Vec::new(),
+            rows: Vec::new(),
+            stretches: Vec::new(),
+            placeholders: 0,
+        }
+    }
+}
+
+/// What the second call gives: the answer, and the list's words.
+#[derive(Debug, Clone, PartialEq, Eq)]
+pub struct Listed {
+    pub answer: Answer,
+    pub list: Vec<u32>,
 }
 
 /// A buffer that no sheet fills.
@@ -38,17 +66,36 @@ pub fn answer(sheet: &[u8], room: usize) -> Answer {
 pub fn trial(sheet: &[u8], room: usize) -> Trial {
     let head = match checks::check(sheet) {
         Ok(head) => head,
-        Err(refusal) => {
-            let answer = Answer::Refused(refusal);
-            return Trial { answer, heights: Vec::new(), handlers: Vec::new() };
-        }
+        Err(refusal) => return Trial::refused(refusal),
     };
     let mut layout = layout::Layout::new(sheet, &head, room);
-    let answer = match layout.lay_out() {
-        Ok(text) => report(text),
-        Err(refusal) => Answer::Refused(refusal),
-    };
-    Trial { answer, heights: layout.text.heights, handlers: layout.handlers }
+    let placeholders = layout.placeholders();
+    let laid = layout.lay_out();
+    let (text, handlers) = (layout.text, layout.handlers);
+    match laid {
+        Ok(()) => Trial {
+            rows: rows::of(&text, &layout.shown),
+            answer: report(text.bytes),
+            heights: text.heights,
+            handlers,
+            stretches: text.stretches,
+            placeholders,
+        },
+        Err(refusal) => {
+            Trial { heights: text.heights, handlers, placeholders, ..Trial::refused(refusal) }
+        }
+    }
+}
+
+/// Refusal 10 comes after 4 and before any token is laid out.
+pub fn listed(sheet: &[u8], room: usize, words: usize) -> Listed {
+    let Trial { answer, rows, placeholders, .. } = trial(sheet, room);
+    let before = matches!(answer, Answer::Refused(Refusal { number: 1..=4, .. }));
+    if !before && words < WORDS * placeholders {
+        let answer = Answer::Refused(Refusal { number: 10, place: 0 });
+        return Listed { answer, list: vec![0; words] };
+    }
+    Listed { answer, list: list(&rows, words) }
 }
 
 fn report(text: Vec<u8>) -> Answer {

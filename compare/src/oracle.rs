@@ -3,9 +3,10 @@
 use std::cell::RefCell;
 use std::panic::{self, AssertUnwindSafe};
 
+use crate::model::Row;
 use crate::sheet::{self, Head, Key, Reader};
 use crate::tokenizer::{PlaceholderKind, Token, TokenKind};
-use crate::watched::Height;
+use crate::watched::{Height, Shown};
 use crate::{Dialect, FormatOptions, Indent, QueryParams};
 
 /// Where the Rust panicked, told apart by the file: the key's number or the indent.
@@ -75,6 +76,25 @@ impl Read<'_> {
         let (tokens, params, options) = (&self.tokens, &self.params, &self.options);
         caught(|| crate::watched_formatter::format(tokens, params, options).heights.clone())
     }
+
+    /// Which parameter stands where, from the watched copy; `None` if a value came from elsewhere.
+    pub fn rows(&self) -> Option<Vec<Row>> {
+        let (tokens, params, options) = (&self.tokens, &self.params, &self.options);
+        let shown =
+            caught(|| crate::watched_formatter::format(tokens, params, options).shown.clone());
+        shown.ok()?.iter().map(|shown| self.row(shown)).collect()
+    }
+
+    fn row(&self, &Shown { token, address, stretch }: &Shown) -> Option<Row> {
+        let own = address == self.tokens[token].value.as_ptr();
+        let entry = match &self.params {
+            QueryParams::None => None,
+            QueryParams::Indexed(all) => all.iter().position(|value| value.as_ptr() == address),
+            QueryParams::Named(all) => all.iter().position(|entry| entry.1.as_ptr() == address),
+        };
+        let (before, survived) = (stretch.start, stretch.end - stretch.start);
+        (own != entry.is_some()).then_some(Row { token, entry, before, survived })
+    }
 }
 
 fn caught<T>(run: impl FnOnce() -> T) -> Result<T, Panic> {
@@ -125,7 +145,7 @@ fn token(token: sheet::Token<&[u8]>) -> Option<Token<'_>> {
 }
 
 fn params(mode: u32, entries: &[sheet::Param<&[u8]>]) -> Option<QueryParams> {
-    let own = |bytes: &[u8]| as_str(bytes).map(str::to_owned);
+    let own = |bytes: &[u8]| as_str(bytes).map(placed);
     let entries = entries.iter();
     Some(match mode {
         sheet::MODE_NONE => QueryParams::None,
@@ -137,6 +157,13 @@ fn params(mode: u32, entries: &[sheet::Param<&[u8]>]) -> Option<QueryParams> {
             QueryParams::Named(entries.map(named).collect::<Option<_>>()?)
         }
     })
+}
+
+/// With an address of its own, even if it is empty.
+fn placed(value: &str) -> String {
+    let mut own = String::with_capacity(value.len() + 1);
+    own.push_str(value);
+    own
 }
 
 fn options(words: &sheet::Options) -> FormatOptions<'static> {

@@ -6,6 +6,7 @@ mod damage;
 pub mod noise;
 pub mod query;
 mod soup;
+mod values;
 pub mod white;
 
 use crate::model::Refusal;
@@ -97,6 +98,7 @@ pub enum Maker {
     White,
     Noise,
     Comments,
+    Values,
 }
 
 const USUAL: [Maker; 16] = [
@@ -120,6 +122,14 @@ const USUAL: [Maker; 16] = [
 
 /// Every maker, and word 7 at any value: what `check` and `list` run.
 pub fn make_any(dice: &mut Dice) -> Made {
+    if dice.one_in(8) {
+        return make_with(dice, Maker::Values, Size::Any, Inline::Any);
+    }
+    make_at_any(dice)
+}
+
+/// The makers that the fixed list was made with where word 7 may be 2.
+pub fn make_at_any(dice: &mut Dice) -> Made {
     let maker = match dice.below(1000) {
         0..8 => Maker::Deep,
         8..20 => Maker::Brim,
@@ -196,6 +206,7 @@ fn name(maker: Maker) -> &'static str {
         Maker::White => "white",
         Maker::Noise => "noise",
         Maker::Comments => "comments",
+        Maker::Values => "values",
     }
 }
 
@@ -216,11 +227,15 @@ fn sheet(dice: &mut Dice, maker: Maker, size: Size) -> Sheet {
         Maker::Deep => soup::deep(dice, &mut options),
         Maker::Brim => brim::tokens(dice, &mut options),
         Maker::Comments => comments::tokens(dice, &mut options, size),
+        Maker::Values => values::tokens(dice, &mut options, size),
         _ => soup::tokens(dice, count),
     };
     let most = if size == Size::Table { 3 } else { 5 };
     let wanted = matches!(maker, Maker::Placeholders | Maker::Switch);
-    let (mode, params) = soup::params(dice, wanted, most);
+    let (mode, params) = match maker {
+        Maker::Values => values::params(dice, &tokens, most),
+        _ => soup::params(dice, wanted, most),
+    };
     let keep = soup::keep(dice, &tokens, most - 1);
     Sheet { options, mode, tokens, params, keep }
 }

@@ -2,7 +2,7 @@
 
 use std::fs;
 
-use crate::model::{self, Answer, Refusal};
+use crate::model::{self, Answer, Refusal, Row};
 use crate::oracle;
 use crate::sheet::{Key, NAMES, Sheet};
 
@@ -15,7 +15,9 @@ pub fn run(file: &str, room: usize) -> bool {
         }
     };
     print!("{}", sheet(&bytes));
-    println!("model at {room}: {}", answer(&model::answer(&bytes, room)));
+    let trial = model::trial(&bytes, room);
+    println!("model at {room}: {}", answer(&trial.answer));
+    println!("rows: {}", rows(&trial.rows));
     println!("Rust: {}", rust(&bytes));
     true
 }
@@ -48,6 +50,16 @@ pub fn answer(answer: &Answer) -> String {
         }
         Answer::Refused(Refusal { number, place }) => format!("refused {number} at {place}"),
     }
+}
+
+/// Token, entry, bytes before, bytes that survived.
+pub fn rows(rows: &[Row]) -> String {
+    let row = |row: &Row| {
+        let entry = row.entry.map_or("own".into(), |entry| entry.to_string());
+        format!("({}, {entry}, {}, {})", row.token, row.before, row.survived)
+    };
+    let rows: Vec<String> = rows.iter().map(row).collect();
+    if rows.is_empty() { "none".into() } else { rows.join(" ") }
 }
 
 pub fn quoted(bytes: &[u8]) -> String {

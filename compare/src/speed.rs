@@ -11,6 +11,8 @@ use crate::sheet::{Sheet, in_turn};
 use shapes::{Maker, SHAPES};
 
 mod costly;
+#[cfg(feature = "rows")]
+mod rows;
 pub mod search;
 mod shapes;
 
@@ -42,6 +44,8 @@ pub fn run(seed: u64, part: &str) -> bool {
         row(name, costly.tokens.len(), &[costly.encode()]);
     }
     clearing();
+    #[cfg(feature = "rows")]
+    rows::run(seed, part);
     true
 }
 

@@ -1,5 +1,7 @@
-//! Document 01's fourteen sheets, each with every variant and buffer that it names; further ones; and
-//! those on word 7 at 2, which the Rust has not.
+//! Document 01's fourteen sheets, each with every variant and buffer that it names; further ones;
+//! those on word 7 at 2, which the Rust has not; and those whose rows are known.
+
+mod rows;
 
 use crate::check::measured;
 use crate::model::{self, Answer, Refusal};
@@ -338,7 +340,8 @@ pub fn run() -> bool {
     let sheets = count(parts.into_iter().flatten().collect(), "document 01's sheets");
     let further = count(further_parts().into_iter().flatten().collect(), "further sheets");
     let comments = count(comment_sheets(), "line comments at word 7 = 0, 1, 2");
-    sheets && further && comments && head()
+    let rows = rows::run();
+    sheets && further && comments && rows && head()
 }
 
 /// The call's default head, where it is linked.

@@ -155,12 +155,12 @@ use mathlib.Core.Path.{{_≡_, refl}}
 use mathlib.Core.List.{{List, [], _∷_, map}}
 use Rattle.rules.specs.Bytes.{{bytes}}
 use Rattle.rules.specs.Answer.{{Answer, laid, refusal}}
-use Rattle.rules.specs.Computed.{{Row, row, given, wanted, computed}}"
+use Rattle.rules.specs.Computed.{{Sample, row, given, wanted, computed}}"
     )
 }
 
 fn claim(out: &mut impl Write, number: usize, rows: &[Row]) -> io::Result<()> {
-    write!(out, "\nabbrev rows-{number} : List Row\nrows-{number} =\n    ")?;
+    write!(out, "\nabbrev rows-{number} : List Sample\nrows-{number} =\n    ")?;
     for Row { bytes, room, answer } in rows {
         write!(out, "row \"{}\" {room} ", escaped(bytes))?;
         match answer {

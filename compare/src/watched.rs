@@ -1,4 +1,5 @@
-//! A text that remembers its heights: what the second copy of the formatter writes into.
+//! A text that remembers its heights, and where it showed a parameter: what the second copy of the
+//! formatter writes into.
 
 use std::cell::{Cell, RefCell};
 use std::mem;
@@ -28,11 +29,42 @@ pub struct Height {
     pub end: usize,
 }
 
+/// Where a placeholder's value stands in the text.
+#[derive(Debug, Clone, Copy, PartialEq, Eq)]
+pub struct Stretch {
+    pub start: usize,
+    pub end: usize,
+}
+
+impl Stretch {
+    /// The text is cut to this length.
+    pub fn clip(&mut self, length: usize) {
+        self.start = self.start.min(length);
+        self.end = self.end.min(length);
+    }
+
+    /// Only what stood from `start` to `end` is left of the text.
+    pub fn trim(&mut self, start: usize, end: usize) {
+        self.clip(end);
+        self.start = self.start.saturating_sub(start);
+        self.end = self.end.saturating_sub(start);
+    }
+}
+
+/// What `params.rs` handed out at a placeholder: the address tells an entry from a value that equals it.
+#[derive(Debug, Clone, Copy)]
+pub struct Shown {
+    pub token: usize,
+    pub address: *const u8,
+    pub stretch: Stretch,
+}
+
 /// Stands in for the standard `String`; has just what the formatter calls.
 #[derive(Default)]
 pub struct String {
     text: std::string::String,
     pub heights: Vec<Height>,
+    pub shown: Vec<Shown>,
 }
 
 pub struct Trimmed<'a>(&'a String);
@@ -64,8 +96,17 @@ impl String {
         self.note();
     }
 
+    /// `push_str`, where it is a placeholder's value.
+    pub fn show(&mut self, value: &str) {
+        let (start, address) = (self.text.len(), value.as_ptr());
+        self.push_str(value);
+        let stretch = Stretch { start, end: self.text.len() };
+        self.shown.push(Shown { token: TOKEN.get(), address, stretch });
+    }
+
     pub fn truncate(&mut self, length: usize) {
         self.text.truncate(length);
+        self.shown.iter_mut().for_each(|shown| shown.stretch.clip(length));
         self.note();
     }
 
@@ -84,8 +125,11 @@ impl String {
 
 impl Trimmed<'_> {
     pub fn to_string(&self) -> String {
-        let text = self.0.text.trim().to_owned();
-        String { text, heights: self.0.heights.clone() }
+        let (worked, text) = (&self.0.text, self.0.text.trim().to_owned());
+        let end = worked.trim_end().len();
+        let mut shown = self.0.shown.clone();
+        shown.iter_mut().for_each(|shown| shown.stretch.trim(end - text.len(), end));
+        String { text, heights: self.0.heights.clone(), shown }
     }
 }
 

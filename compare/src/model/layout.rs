@@ -1,9 +1,10 @@
 //! How the layout goes, token by token.
 
-use super::Refusal;
 use super::ahead;
 use super::checks::{Head, key_class, word};
+use super::rows::Shown;
 use super::text::{Text, is_blank, is_white};
+use super::{Refusal, rows};
 use crate::sheet::*;
 
 const DEEPEST: usize = 128;
@@ -57,6 +58,7 @@ pub struct Layout<'s> {
     mode: u32,
     options: Options,
     pub text: Text,
+    pub shown: Vec<Shown>,
     pub handlers: Vec<&'static str>,
     at: usize,
     open_level: usize,
@@ -72,7 +74,7 @@ fn limit(word: u32) -> Option<usize> {
 }
 
 /// `Some(true)` switches on. By prefix, letter case aside; byte 32 alone may stand between.
-fn switch(value: &[u8]) -> Option<bool> {
+pub fn switch(value: &[u8]) -> Option<bool> {
     fn after<'v>(value: &'v [u8], start: &[u8]) -> Option<&'v [u8]> {
         let head = value.get(..start.len())?;
         head.eq_ignore_ascii_case(start).then_some(&value[start.len()..])
@@ -121,6 +123,7 @@ impl<'s> Layout<'s> {
             mode: word(sheet, 16),
             options: Options { indent, case, inline, lines, block, arguments, top_level },
             text: Text::new(room),
+            shown: Vec::new(),
             handlers: Vec::new(),
             at: 0,
             open_level: 0,
@@ -131,7 +134,12 @@ impl<'s> Layout<'s> {
         }
     }
 
-    pub fn lay_out(&mut self) -> Result<Vec<u8>, Refusal> {
+    /// The placeholders to be laid out, whatever is refused on the way.
+    pub fn placeholders(&self) -> usize {
+        rows::placeholders(self.tokens.iter().map(|token| (token.kind, token.value)))
+    }
+
+    pub fn lay_out(&mut self) -> Step {
         let mut on = true;
         let mut drop_next = false;
         for at in 0..self.tokens.len() {
@@ -155,7 +163,8 @@ impl<'s> Layout<'s> {
                 self.text.append(token.value)?;
             }
         }
-        Ok(self.text.trimmed())
+        self.text.trim();
+        Ok(())
     }
 
     fn step(&mut self, token: Token) -> Step {
@@ -292,29 +301,28 @@ impl<'s> Layout<'s> {
     }
 
     fn placeholder(&mut self, token: Token) -> Step {
-        let shown = self.shown(token)?.to_vec();
-        self.text.append(&shown)?;
+        let entry = self.entry(token)?;
+        let value = entry.map_or(token.value, |number| self.params[number].1);
+        let numbers = self.text.show(value)?;
+        self.shown.push(Shown { token: self.at, entry, numbers });
         self.text.append(b" ")
     }
 
-    fn shown<'v>(&mut self, token: Token<'v>) -> Result<&'v [u8], Refusal>
-    where
-        's: 'v,
-    {
+    /// The number of the entry that is shown; `None` if it is the token's own value.
+    fn entry(&mut self, token: Token) -> Result<Option<usize>, Refusal> {
         if self.mode == MODE_NAMED {
             let name = match token.key {
-                TokenKey::None => return Ok(token.value),
+                TokenKey::None => return Ok(None),
                 TokenKey::Named(name) => name,
                 TokenKey::ZeroIndexed(_) | TokenKey::OneIndexed(_) => b"",
             };
-            let entry = self.params.iter().find(|entry| entry.0 == name);
-            return Ok(entry.map_or(token.value, |entry| entry.1));
+            return Ok(self.params.iter().position(|entry| entry.0 == name));
         }
         if self.mode == MODE_NONE {
-            return Ok(token.value);
+            return Ok(None);
         }
         let number = match token.key {
-            TokenKey::Named(name) if !name.is_empty() => return Ok(token.value),
+            TokenKey::Named(name) if !name.is_empty() => return Ok(None),
             TokenKey::ZeroIndexed(number) => number as usize,
             TokenKey::OneIndexed(0) => return Err(Refusal { number: 5, place: self.at }),
             TokenKey::OneIndexed(number) => number as usize - 1,
@@ -324,7 +332,7 @@ impl<'s> Layout<'s> {
                 self.counter - 1
             }
         };
-        Ok(self.params.get(number).map_or(token.value, |entry| entry.1))
+        Ok((number < self.params.len()).then_some(number))
     }
 
     // The five kinds named Reserved.

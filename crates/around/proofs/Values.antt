@@ -12,7 +12,7 @@ use borrow.Author.Tests.{eq-eqb, ne-eqb, eqb-true, eqb-false, lt-ltb}
 use Rattle.rules.specs.declared.Place.{Place}
 use Rattle.rules.specs.Base.{same, anyOf}
 use Rattle.rules.specs.Words.{wordAt, placeAt, tokenFrom, tokenAt}
-use Rattle.rules.specs.Sheet.{part, tokenOf}
+use Rattle.rules.specs.Sheet.{bodyPart, tokenOf}
 use Rattle.tokens.specs.Placed.{Within}
 use Rattle.ascii.specs.Part.{before}
 use Rattle.around.specs.Lists.{length-part}
@@ -56,14 +56,14 @@ module _ (s : List ℕ) (base i : ℕ) (v : Place) (w : Within s base i) (is : v
   byte-inside u f l = let h = value-end u (v .len) f refl in omega arith
 
   pub by-byte : (u b : ℕ) → u ≡ v .start → v .len ≡ 1 → eqb (getD s (base + u) 0) b ≡ same (tokenOf s base i .value) (b ∷ [])
-  unfolding part
+  unfolding bodyPart
   by-byte u b f l =
       let p = tokenAt s i .value in
       let m : p .len ≡ v .len = sym (ap (λ (q : Place). q .len) is) in
       let z : 0 < p .len = omega arith in
       let a : base + p .start + 0 ≡ base + u = let g : v .start ≡ p .start = ap (λ (q : Place). q .start) is in omega arith in
       sym
-      (same-one (part s base p) b (value-length ∙ l)
+      (same-one (bodyPart s base p) b (value-length ∙ l)
       ∙ ap (λ (x : ℕ). eqb x b) (getD-take (p .len) (drop (base + p .start) s) 0 0 z ∙ getD-drop (base + p .start) s 0 0 ∙ ap (λ (x : ℕ). getD s x 0) a))
 
 -- ---- a value with a line feed
@@ -82,7 +82,7 @@ before-feed (x ∷ xs) = go (eqb x 10) refl (before-feed xs)
 
 pub by-find : (s : List ℕ) (base i : ℕ) (v : Place) (u l r : ℕ) → Within s base i → v ≡ tokenAt s i .value → u ≡ v .start → l ≡ v .len → r ≡ before 10 (take l (drop (base + u) s))
     → ltb r l ≡ anyOf (eqb 10) (tokenOf s base i .value)
-unfolding part
+unfolding bodyPart
 by-find s base i v u l r w is f g e =
     let p : take l (drop (base + u) s) ≡ tokenOf s base i .value = rw (f, g, is) in
     let n : length (tokenOf s base i .value) ≡ l = value-length s base i v w is ∙ sym g in

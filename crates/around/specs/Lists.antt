@@ -8,7 +8,7 @@ use lib.ListN.{length, drop, length-drop}
 use lib.Seq.{length-take-le}
 use Rattle.rules.specs.declared.Place.{Place}
 use Rattle.rules.specs.Words.{tokenAt}
-use Rattle.rules.specs.Sheet.{part, listOf, tokenOf, tokensFrom, tokensBefore}
+use Rattle.rules.specs.Sheet.{bodyPart, listOf, tokenOf, tokensFrom, tokensBefore}
 use Rattle.tokens.specs.Placed.{Inside}
 use Rattle.around.specs.Readable.{Readable, readable-within}
 
@@ -55,8 +55,8 @@ around s base (suc i) k = let e : suc i + k ≡ i + suc k = omega arith in aroun
 
 -- ---- values
 
-pub length-part : (s : List ℕ) (base : ℕ) (p : Place) → Inside s base p → length (part s base p) ≡ p .len
-unfolding part
+pub length-part : (s : List ℕ) (base : ℕ) (p : Place) → Inside s base p → length (bodyPart s base p) ≡ p .len
+unfolding bodyPart
 length-part s base p h = let i = h .inside in length-take-le (p .len) (drop (base + p .start) s) (simp length-drop (omega arith))
 
 -- l being its length, a value is no longer than the sheet

@@ -36,7 +36,7 @@ use Rattle.formatter.specs.Run.{tokenRule, changesKind, changesIn, kindI
 abbrev blockInfo : Env → Here → State → BlockInfo
 blockInfo e h u = buildInfo (h .token ∷ h .after)
 
-false-true : {A : Type 0} → false ≡ true → A
+pub false-true : {A : Type 0} → false ≡ true → A
 false-true e = absurd (let z : _≡_ {A = ℕ} 0 1 = cc in omega arith)
 
 -- only a token that is laid out changes more than the text
@@ -51,7 +51,7 @@ laid-out turn.Copied k separator h = false-true h
 abbrev left-over : List ℕ
 left-over = 2 ∷ 3 ∷ 4 ∷ 5 ∷ 6 ∷ 7 ∷ 8 ∷ 9 ∷ 10 ∷ 13 ∷ 14 ∷ 15 ∷ 16 ∷ []
 
-abbrev other-kinds : List ℕ
+abbrev pub other-kinds : List ℕ
 other-kinds = 0 ∷ 1 ∷ 2 ∷ 8 ∷ 11 ∷ 12 ∷ 13 ∷ 15 ∷ 16 ∷ []
 
 -- ---- which tokens change more than the text

@@ -2,17 +2,21 @@
 use mathlib.Core.Path.{_≡_}
 use mathlib.Core.List.{List}
 use Prim.Native.Nat.{ℕ}
-use lib.ListN.{length}
+use lib.ListN.{length, replicate}
 use Rattle.rules.specs.declared.TokenKind.{TokenKind}
 use Rattle.rules.specs.Tokens.{Here}
 use Rattle.rules.specs.Sheet.{Env, tokenOf, tokensOf}
-use Rattle.rules.specs.Switch.{turnOf, switchAfter}
+use Rattle.rules.specs.Switch.{switchAfter}
 use Rattle.rules.specs.State.{State, start}
 use Rattle.rules.specs.Formatter.{formatToken}
 use Rattle.rules.specs.Answer.{Answer, takenAs, format}
+use Rattle.rules.specs.Base.{if_then_else_}
+use Rattle.rules.specs.Rows.{rows, listFor}
 use Rattle.fmt_switch.specs.Of.{switchOf}
 use Rattle.state.specs.declared.Context.{Context}
-use Rattle.state.specs.Of.{stateOf, Steady, envIn, Handled}
+use Rattle.text.specs.Held.{marked}
+use Rattle.around.specs.Run.{turnAt}
+use Rattle.state.specs.Of.{stateOf, Steady, withText, envIn, Handled}
 use Rattle.fmt_switch.specs.declared.Switch.{Switch as CodeSwitch}
 use Rattle.state.specs.declared.State.{State as Code}
 use Rattle.rules.specs.declared.Turn.{Turn}
@@ -57,6 +61,10 @@ changesIn turn.Copied k separator = false
 abbrev pub answerIn : List ℕ → Context → ℕ → Answer
 answerIn s x room = format (envIn s x room) (tokensOf s (x .counts))
 
+-- the list of k words: with rows, those of the answer; without, zero
+abbrev pub listIn : List ℕ → Context → ℕ → Bool → ℕ → List ℕ
+listIn s x room b k = if b then listFor k (rows (envIn s x room) (tokensOf s (x .counts))) (answerIn s x room) else replicate k 0
+
 -- the first state, in a buffer of cap bytes
 pub record Begun (r : Code) (cap : ℕ) (q : List ℕ) : Type 0 where
   pub room : length q ≡ cap
@@ -64,7 +72,7 @@ pub record Begun (r : Code) (cap : ℕ) (q : List ℕ) : Type 0 where
   pub steady : Steady 0 r q
   pub state : (s : List ℕ) (base : ℕ) → stateOf s base r q ≡ start
 
--- token i is taken as the switch says: from the state st, the switch w and the buffer d to r, v and q
+-- token i is taken as the switch says: from the state st, whose text is marked, the switch w and the buffer d to r, v and q
 pub record Stepped (s : List ℕ) (x : Context) (i : ℕ) (st : Code) (w : CodeSwitch) (d : List ℕ) (r : Code) (v : CodeSwitch) (q : List ℕ) : Type 0 where
-  pub taken : Handled s x i (takenAs (turnOf (switchOf w) (tokenOf s (x .base) i .kind) (tokenOf s (x .base) i .value))) st d r q
-  pub switch : switchOf v ≡ switchAfter (turnOf (switchOf w) (tokenOf s (x .base) i .kind) (tokenOf s (x .base) i .value)) (switchOf w)
+  pub taken : Handled s x i (takenAs (turnAt s (x .base) i (switchOf w))) (withText st (marked (st .text))) d r q
+  pub switch : switchOf v ≡ switchAfter (turnAt s (x .base) i (switchOf w)) (switchOf w)

@@ -1,12 +1,17 @@
 // formatter.rs, `format`: every token in turn, by the fmt switch and its kind.
 ghost use mathlib.Core.Path.{_≡_};
-ghost use mathlib.Core.Bool.{false};
-ghost use Prim.Native.Nat.{_≤_, _<_};
+ghost use mathlib.Core.Bool.{true, false};
+ghost use mathlib.Core.List.{map};
+ghost use Prim.Native.Nat.{ℕ, _*_, _≤_, _<_};
 ghost use lib.ListN.{length};
+ghost use Rattle.rules.specs.Text.{bytesIn};
+ghost use Rattle.rules.specs.Sheet.{tokensOf};
+ghost use Rattle.rules.specs.Rows.{trimRow, placeholders};
+ghost use Rattle.rows.specs.Listing.{rowsIn, listing, Words};
 ghost use Rattle.rules.specs.Span.{topLevelTokensInfo};
 ghost use Rattle.rules.specs.Answer.{takenAs};
 ghost use Rattle.state.specs.Of.{Known, Ready, Handled, withText, hereIn};
-ghost use Rattle.formatter.specs.Run.{tokenRule, changesKind, changesIn, Begun, answerIn, kindIn};
+ghost use Rattle.formatter.specs.Run.{tokenRule, changesKind, changesIn, Begun, answerIn, listIn, kindIn};
 ghost use Rattle.values.specs.On.{separates};
 ghost use Rattle.rules.specs.Answer.{reportOf, bufferOf, finish as finishOf};
 ghost use Rattle.text.specs.Held.{textOf, Held};
@@ -19,9 +24,11 @@ use rules::Report;
 use rules::SpanInfo;
 use rules::TokenKind;
 use rules::Turn;
+use stacks::both;
 use state::Context;
 use state::State;
 use state::value_of;
+use switched::lays_out;
 use text::Text;
 
 // Whether a token that is laid out changes more of the state than the text.
@@ -114,14 +121,18 @@ fn begin(query: &mut [u8]) -> State
     }
 }
 
-// The report of a text that is done.
-fn finish(query: &mut [u8], t: Text) -> Report
+// The report of a text that is done; the rows are trimmed with it.
+fn finish(query: &mut [u8], rows: &mut [u32], count: usize, t: Text) -> Report
     requires { ⌜ Held t (now query) ⌝ }
     requires { ⌜ t .fault ≡ 0 ⌝ }
-    ensures { λ r. ⌜ r ≡ reportOf (finishOf (textOf t (now (query .entry)))) ⌝ }
-    ensures { λ r. ⌜ now (query .exit) ≡ bufferOf (length (now (query .entry))) (finishOf (textOf t (now (query .entry)))) ⌝ }
+    requires { ⌜ Words (now rows) count ⌝ }
+    ensures { λ r. ⌜ ((i : ℕ) → r ≡ reportOf (finishOf i (textOf t (now (query .entry))))) ⌝ }
+    ensures { λ r. ⌜ ((i : ℕ) → now (query .exit) ≡ bufferOf (length (now (query .entry))) (finishOf i (textOf t (now (query .entry))))) ⌝ }
+    ensures { λ r. ⌜ now (rows .exit) ≡ listing (length (now (rows .entry))) (map (trimRow (bytesIn (textOf t (now (query .entry))))) (rowsIn count (now (rows .entry)))) ⌝ }
 {
     let done = report::finish(query, t);
+    let end = done.end;
+    rows::trim(rows, count, end, end - done.len);
     Report {
         refusal: 0,
         place: 0,
@@ -141,17 +152,32 @@ fn span_info(sheet: &[u8], x: Context, i: usize, level: u32, block_len: u32) -> 
     top_level_tokens_info(sheet, x.base, c.tokens, i, level, o, block_len)
 }
 
-pub fn format(query: &mut [u8], sheet: &[u8], x: Context) -> Report
+// Without `with_rows` no row is kept.
+pub fn format(
+    query: &mut [u8],
+    rows: &mut [u32],
+    with_rows: bool,
+    sheet: &[u8],
+    x: Context,
+) -> Report
     requires { ⌜ Known (now sheet) x ⌝ }
+    requires { ⌜ («with_rows» ≡ true → 5 * placeholders (tokensOf (now sheet) (x .counts)) ≤ length (now rows)) ⌝ }
     ensures { λ r. ⌜ r ≡ reportOf (answerIn (now (sheet .entry)) x (length (now (query .entry)))) ⌝ }
     ensures { λ r. ⌜ now (query .exit) ≡ bufferOf (length (now (query .entry))) (answerIn (now (sheet .entry)) x (length (now (query .entry)))) ⌝ }
+    ensures { λ r. ⌜ now (rows .exit) ≡ listIn (now (sheet .entry)) x (length (now (query .entry))) «with_rows» (length (now (rows .entry))) ⌝ }
 {
     let c = x.counts;
     let n = c.tokens;
+    rows::clear(rows);
     let mut s = begin(query);
     let mut switch = Switch::new();
+    let mut entry: u32 = 0;
+    let mut shown: u32 = 0;
+    let mut count: usize = 0;
     let mut i: usize = 0;
     while i < n {
+        let u = s.text;
+        s.text = text::mark(u);
         let kind = tokens::kind_at(sheet, i);
         let v = value_of(sheet, x, i);
         let turn = switch.turn_of(kind, sheet, v.start, v.len);
@@ -194,7 +220,12 @@ pub fn format(query: &mut [u8], sheet: &[u8], x: Context) -> Report
                     s = brackets::format_closing_parentheses(query, s, sheet, x, i);
                 }
                 TokenKind::Placeholder => {
-                    s = values::format_placeholder(query, s, sheet, x, i);
+                    let f = values::format_placeholder(query, s, sheet, x, i);
+                    let u = f.text;
+                    s.text = u;
+                    s.index = f.index;
+                    entry = f.entry;
+                    shown = f.len;
                 }
                 _ => {
                     s = values::format_query_separator(query, s, sheet, x, i);
@@ -206,6 +237,7 @@ pub fn format(query: &mut [u8], sheet: &[u8], x: Context) -> Report
         }
         let t = s.text;
         if t.fault != 0 {
+            rows::clear(rows);
             return Report {
                 refusal: t.fault,
                 place: i as u64,
@@ -214,8 +246,10 @@ pub fn format(query: &mut [u8], sheet: &[u8], x: Context) -> Report
                 width: 0,
             };
         }
+        let kept = both(with_rows, lays_out(turn, kind));
+        count = rows::after(rows, count, t.low, kept, i as u32, entry, t.low, shown);
         i += 1;
     }
     let t = s.text;
-    finish(query, t)
+    finish(query, rows, count, t)
 }

@@ -11,7 +11,7 @@ use Rattle.rules.specs.declared.Case.{Case}
 use Rattle.rules.specs.declared.Case.the-variants as case
 use Rattle.rules.specs.Base.{if_then_else_, same, anyOf}
 use Rattle.rules.specs.Words.{placeAt, keepsAt, bodyAt}
-use Rattle.rules.specs.Sheet.{part, listOf, keepOf, keepsOf}
+use Rattle.rules.specs.Sheet.{bodyPart, listOf, keepOf, keepsOf}
 use Rattle.tokens.specs.Placed.{Inside}
 use Rattle.records.specs.Sheeted.{Sheeted}
 use Rattle.places.specs.Laws.{list-next, list-end}
@@ -48,7 +48,7 @@ module _ (s : List ℕ) (c : Counts) (v : List ℕ) where
       by-other e = rw e at step
 
 pub read-keep : (s : List ℕ) (c : Counts) (i base : ℕ) (p q : Place) (r : Bool) → base ≡ bodyAt c → q ≡ placeAt s (keepsAt c + 8 * i)
-    → r ≡ same (part s base p) (part s base q) → r ≡ same (part s (bodyAt c) p) (keepOf s c i)
+    → r ≡ same (bodyPart s base p) (bodyPart s base q) → r ≡ same (bodyPart s (bodyAt c) p) (keepOf s c i)
 unfolding keepOf
 read-keep s c i base p q r eb eq h = rw (eb, eq) at h
 

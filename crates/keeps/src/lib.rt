@@ -2,7 +2,7 @@
 ghost use mathlib.Core.Path.{_≡_};
 ghost use Rattle.rules.specs.Base.{same, anyOf};
 ghost use Rattle.rules.specs.Words.{bodyAt};
-ghost use Rattle.rules.specs.Sheet.{part, keepsOf};
+ghost use Rattle.rules.specs.Sheet.{bodyPart, keepsOf};
 ghost use Rattle.tokens.specs.Placed.{Inside};
 ghost use Rattle.records.specs.Sheeted.{Sheeted};
 ghost use Rattle.keeps.specs.CaseOf.{caseOf};
@@ -15,7 +15,7 @@ use rules::Place;
 
 pub fn is_keep(sheet: &[u8], c: Counts, p: Place) -> bool
     requires { ⌜ (Sheeted (now sheet) c) × (Inside (now sheet) (bodyAt c) p) ⌝ }
-    ensures { λ r. ⌜ r ≡ anyOf (same (part (now (sheet .entry)) (bodyAt c) p)) (keepsOf (now (sheet .entry)) c) ⌝ }
+    ensures { λ r. ⌜ r ≡ anyOf (same (bodyPart (now (sheet .entry)) (bodyAt c) p)) (keepsOf (now (sheet .entry)) c) ⌝ }
 {
     let base = body_at(c);
     let k = c.keeps;
@@ -31,7 +31,7 @@ pub fn is_keep(sheet: &[u8], c: Counts, p: Place) -> bool
 
 pub fn case_for(sheet: &[u8], c: Counts, casing: Case, p: Place) -> Case
     requires { ⌜ (Sheeted (now sheet) c) × (Inside (now sheet) (bodyAt c) p) ⌝ }
-    ensures { λ r. ⌜ r ≡ caseOf (now (sheet .entry)) c casing (part (now (sheet .entry)) (bodyAt c) p) ⌝ }
+    ensures { λ r. ⌜ r ≡ caseOf (now (sheet .entry)) c casing (bodyPart (now (sheet .entry)) (bodyAt c) p) ⌝ }
 {
     // The answer is AsIs either way: no keep word is read.
     if let Case::AsIs = casing {

@@ -1,2 +1,3 @@
 pub mod ListLaws
 pub mod CounterLaws
+pub mod FoundLaws

@@ -3,9 +3,11 @@ ghost use mathlib.Core.Path.{_≡_};
 ghost use Prim.Native.Nat.{_<_};
 ghost use Rattle.rules.specs.Words.{bodyAt};
 ghost use Rattle.records.specs.Sheeted.{Sheeted};
-ghost use Rattle.params.specs.Entries.{KeyIn, shownOf};
+ghost use Rattle.params.specs.Entries.{KeyIn, foundOf, shownOf};
 ghost use Rattle.lent.specs.Listed.{numbered, equals, namedIn};
 use offences::in_body;
+use params::Entry;
+use params::Found;
 use params::Shown;
 use params::get;
 use places::same_places;
@@ -21,14 +23,17 @@ pub struct Counter {
 }
 
 // What is shown; the counter is read, and moved as the lookup says.
-pub fn get_next(sheet: &[u8], c: Counts, t: Token, counter: &mut Counter) -> Place
+pub fn get_next(sheet: &[u8], c: Counts, t: Token, counter: &mut Counter) -> Found
     requires { ⌜ (Sheeted (now sheet) c) × (KeyIn (now sheet) (bodyAt c) (t .key)) × (now counter .at < 4294967295) ⌝ }
-    ensures { λ r. ⌜ (r ≡ shownOf (now (sheet .entry)) c t (now (counter .entry) .at) .place) × (now (counter .exit) .at ≡ shownOf (now (sheet .entry)) c t (now (counter .entry) .at) .index) ⌝ }
+    ensures { λ r. ⌜ (r ≡ foundOf (now (sheet .entry)) c t (now (counter .entry) .at)) × (now (counter .exit) .at ≡ shownOf (now (sheet .entry)) c t (now (counter .entry) .at) .index) ⌝ }
 {
     let index = counter.at;
     let shown = get(sheet, c, t, index);
     counter.at = shown.index;
-    shown.place
+    Found {
+        place: shown.place,
+        entry: shown.entry,
+    }
 }
 
 // `params::get`, by a counter that is lent: the layout's placeholder.
@@ -37,9 +42,10 @@ pub fn get_counted(sheet: &[u8], c: Counts, t: Token, index: u32) -> Shown
     ensures { λ r. ⌜ r ≡ shownOf (now (sheet .entry)) c t index ⌝ }
 {
     let mut counter = Counter { at: index };
-    let place = get_next(sheet, c, t, &mut counter);
+    let found = get_next(sheet, c, t, &mut counter);
     Shown {
-        place,
+        place: found.place,
+        entry: found.entry,
         index: counter.at,
     }
 }
@@ -52,14 +58,20 @@ pub struct Param {
     pub value: Place,
 }
 
-// The value of record n, or the caller's place.
-pub fn by_number(ps: &[Param], n: usize, own: Place) -> Place
+// Record n and its value, or the caller's place.
+pub fn by_number(ps: &[Param], n: usize, own: Place) -> Found
     ensures { λ r. ⌜ r ≡ numbered (now (ps .entry)) n own ⌝ }
 {
     if n < ps.len() {
-        return ps[n].value;
+        return Found {
+            place: ps[n].value,
+            entry: Entry::At(n),
+        };
     }
-    own
+    Found {
+        place: own,
+        entry: Entry::Nothing,
+    }
 }
 
 // The record's name equals the searched one. A place outside the bodies equals no name.
@@ -76,8 +88,8 @@ fn is_named(sheet: &[u8], c: Counts, p: Param, name: Place) -> bool
     false
 }
 
-// The value of the first record whose name equals, or the caller's place.
-pub fn by_name(sheet: &[u8], c: Counts, ps: &[Param], name: Place, own: Place) -> Place
+// The first record whose name equals, and its value; or the caller's place.
+pub fn by_name(sheet: &[u8], c: Counts, ps: &[Param], name: Place, own: Place) -> Found
     requires { ⌜ Sheeted (now sheet) c ⌝ }
     ensures { λ r. ⌜ r ≡ namedIn (now (sheet .entry)) c name (now (ps .entry)) own ⌝ }
 {
@@ -85,9 +97,15 @@ pub fn by_name(sheet: &[u8], c: Counts, ps: &[Param], name: Place, own: Place) -
     while i < ps.len() {
         let p = ps[i];
         if is_named(sheet, c, p, name) {
-            return p.value;
+            return Found {
+                place: p.value,
+                entry: Entry::At(i),
+            };
         }
         i = i + 1;
     }
-    own
+    Found {
+        place: own,
+        entry: Entry::Nothing,
+    }
 }

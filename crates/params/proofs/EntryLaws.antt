@@ -21,12 +21,12 @@ use Rattle.rules.specs.declared.Counts.{Counts}
 use Rattle.rules.specs.Base.{if_then_else_, same}
 use Rattle.rules.specs.Tokens.{fromOne}
 use Rattle.rules.specs.Words.{wordAt, placeAt, paramsAt, bodyAt}
-use Rattle.rules.specs.Sheet.{part, nameOf}
+use Rattle.rules.specs.Sheet.{bodyPart, nameOf}
 use Rattle.tokens.specs.Placed.{Inside}
 use Rattle.records.specs.Sheeted.{Sheeted}
 use Rattle.places.specs.Laws.{part-empty}
 use Rattle.params.specs.declared.Entry.{Entry}
-use Rattle.params.specs.Entries.{KeyIn, firstFrom, hasName, entryNamed, entryKeyed, entryAt, entryFrom, takesNext, entryNumbered, entryIndexed, entryFor, placeIn, placeShown}
+use Rattle.params.specs.Entries.{KeyIn, firstFrom, hasName, entryNamed, entryKeyed, entryAt, entryFrom, takesNext, entryNumbered, entryIndexed, entryFor, placeIn, foundOf}
 use Rattle.params.specs.Found.{entry-below}
 
 -- ---- find_by_name
@@ -39,7 +39,7 @@ module _ (s : List ℕ) (c : Counts) (i : ℕ) (h : i < c .params) (sheeted : Sh
   name-inside base q eb eq = rw (eb, eq) (sheeted .params .within i h .name-in)
 
 pub read-name : (s : List ℕ) (c : Counts) (i base : ℕ) (p q : Place) (r : Bool) → base ≡ bodyAt c → q ≡ placeAt s (paramsAt c + 16 * i)
-    → r ≡ same (part s base q) (part s base p) → r ≡ hasName s c (part s (bodyAt c) p) i
+    → r ≡ same (bodyPart s base q) (bodyPart s base p) → r ≡ hasName s c (bodyPart s (bodyAt c) p) i
 unfolding hasName nameOf
 read-name s c i base p q r eb eq h = rw (eb, eq) at h
 
@@ -74,15 +74,15 @@ pub key-name : (s : List ℕ) (base : ℕ) (k : PlaceholderKind) (p : Place) →
 key-name s base k p h e = h .name-in p e
 
 module _ (s : List ℕ) (c : Counts) (k : PlaceholderKind) (e : Entry) where
-  pub keyed-named : (p : Place) → k ≡ key.Named p → e ≡ entryNamed s c (part s (bodyAt c) p) → e ≡ entryKeyed s c k
+  pub keyed-named : (p : Place) → k ≡ key.Named p → e ≡ entryNamed s c (bodyPart s (bodyAt c) p) → e ≡ entryKeyed s c k
   unfolding entryKeyed
   keyed-named p h g = rw (h, g)
 
-  pub keyed-zero : (n : ZeroIndexed) (p : Place) → k ≡ key.Zero n → p .len ≡ 0 → e ≡ entryNamed s c (part s (bodyAt c) p) → e ≡ entryKeyed s c k
+  pub keyed-zero : (n : ZeroIndexed) (p : Place) → k ≡ key.Zero n → p .len ≡ 0 → e ≡ entryNamed s c (bodyPart s (bodyAt c) p) → e ≡ entryKeyed s c k
   unfolding entryKeyed
   keyed-zero n p h l g = rw (h, g, part-empty s (bodyAt c) p l)
 
-  pub keyed-one : (n : OneIndexed) (p : Place) → k ≡ key.One n → p .len ≡ 0 → e ≡ entryNamed s c (part s (bodyAt c) p) → e ≡ entryKeyed s c k
+  pub keyed-one : (n : OneIndexed) (p : Place) → k ≡ key.One n → p .len ≡ 0 → e ≡ entryNamed s c (bodyPart s (bodyAt c) p) → e ≡ entryKeyed s c k
   unfolding entryKeyed
   keyed-one n p h l g = rw (h, g, part-empty s (bodyAt c) p l)
 
@@ -118,7 +118,7 @@ module _ (c : Counts) (k : PlaceholderKind) (i : ℕ) (e : Entry) where
   unfolding entryIndexed takesNext entryNumbered
   number-one n x h y g = rw (h, g, y)
 
--- ---- entry_for, place_shown
+-- ---- entry_for, find
 
 module _ (s : List ℕ) (c : Counts) (k : PlaceholderKind) (i m : ℕ) (h : m ≡ wordAt s 16) where
   pub for-none : m ≡ 0 → Entry.Nothing ≡ entryFor s c k i
@@ -137,10 +137,10 @@ module _ (s : List ℕ) (c : Counts) (t : Token) (i : ℕ) (e : Entry) (h : e �
   pub entry-record : (j : ℕ) → e ≡ Entry.At j → Sheeted s c → paramsAt c + 16 * j + 16 ≤ length s
   entry-record j g sheeted = param-record s c j (entry-below s c (t .key) i j (sym h ∙ g)) sheeted
 
-  pub shown-entry : (j : ℕ) (p : Place) → e ≡ Entry.At j → p ≡ placeAt s (paramsAt c + 16 * j + 8) → p ≡ placeShown s c t i
-  unfolding placeShown placeIn
-  shown-entry j p g q = rw (← h, g, q)
+  pub found-entry : (j : ℕ) (p : Place) → e ≡ Entry.At j → p ≡ placeAt s (paramsAt c + 16 * j + 8) → record { place = p; entry = Entry.At j } ≡ foundOf s c t i
+  unfolding foundOf placeIn
+  found-entry j p g q = rw (← h, g, q)
 
-  pub shown-own : e ≡ Entry.Nothing → t .value ≡ placeShown s c t i
-  unfolding placeShown placeIn
-  shown-own g = rw (← h, g)
+  pub found-own : (p : Place) → e ≡ Entry.Nothing → p ≡ t .value → record { place = p; entry = e } ≡ foundOf s c t i
+  unfolding foundOf placeIn
+  found-own p g q = rw (← h, g, q)

@@ -7,7 +7,6 @@ use native.Mathlib.Omega.{arith}
 use lib.Dec.{eqb}
 use lib.ListN.{length}
 use borrow.Author.Tests.{ne-eqb}
-use Rattle.rules.specs.declared.Place.{Place}
 use Rattle.rules.specs.declared.PlaceholderKind.{PlaceholderKind}
 use Rattle.rules.specs.declared.PlaceholderKind.the-variants as key
 use Rattle.rules.specs.declared.OneIndexed.{OneIndexed}
@@ -17,10 +16,11 @@ use Rattle.rules.specs.declared.Counts.{Counts}
 use Rattle.rules.specs.Base.{if_then_else_}
 use Rattle.rules.specs.Tokens.{Key, named, fromOne}
 use Rattle.rules.specs.Words.{wordAt, bodyAt}
-use Rattle.rules.specs.Sheet.{part, listOf, keyRead, Param, QueryParams, None, Indexed, Named, paramOf, paramsOf}
+use Rattle.rules.specs.Sheet.{bodyPart, listOf, keyRead, Param, QueryParams, None, Indexed, Named, paramOf, paramsOf}
 use Rattle.rules.specs.Params.{advances, isRefused, offends}
 use Rattle.places.specs.Laws.{length-part}
-use Rattle.params.specs.Entries.{KeyIn, takesNext, keyRefused, placeShown, shownOf}
+use Rattle.params.specs.declared.Found.{Found}
+use Rattle.params.specs.Entries.{KeyIn, takesNext, keyRefused, foundOf, shownOf}
 
 neither : (f : QueryParams → Bool) → f None ≡ false → ((ps : List Param) → f (Named ps) ≡ false) → (z : Bool) (ps : List Param) → f (if z then None else Named ps) ≡ false
 neither f p q true ps = p
@@ -34,7 +34,7 @@ name-advances ps (x ∷ v) n h = rw (ne-eqb n 0 (λ z. omega arith))
 key-advances : (ps : List (List ℕ)) (s : List ℕ) (base : ℕ) (k : PlaceholderKind) → KeyIn s base k → advances (Indexed ps) (keyRead s base k) ≡ takesNext k
 unfolding advances keyRead takesNext
 key-advances ps s base key.Absent h = refl
-key-advances ps s base (key.Named p) h = name-advances ps (part s base p) (p .len) (length-part s base p (h .name-in p refl))
+key-advances ps s base (key.Named p) h = name-advances ps (bodyPart s base p) (p .len) (length-part s base p (h .name-in p refl))
 key-advances ps s base (key.Zero n) h = refl
 key-advances ps s base (key.One n) h = refl
 
@@ -72,16 +72,16 @@ module _ (s : List ℕ) (m : ℕ) (h : m ≡ wordAt s 16) where
 
   -- ---- what is shown
 
-  module _ (c : Counts) (t : Token) (i : ℕ) (p : Place) (hp : p ≡ placeShown s c t i) where
-    pub shown-elsewhere : (m ≡ 1 → ⊥) → record { place = p; index = i } ≡ shownOf s c t i
+  module _ (c : Counts) (t : Token) (i : ℕ) (f : Found) (hf : f ≡ foundOf s c t i) where
+    pub shown-elsewhere : (m ≡ 1 → ⊥) → record { place = f .place; entry = f .entry; index = i } ≡ shownOf s c t i
     unfolding shownOf
-    shown-elsewhere o = rw (hp, stays c (keyRead s (bodyAt c) (t .key)) o)
+    shown-elsewhere o = rw (hf, stays c (keyRead s (bodyAt c) (t .key)) o)
 
     module _ (o : m ≡ 1) (kin : KeyIn s (bodyAt c) (t .key)) (b : Bool) (hb : b ≡ takesNext (t .key)) where
-      pub shown-next : b ≡ true → record { place = p; index = i + 1 } ≡ shownOf s c t i
+      pub shown-next : b ≡ true → record { place = f .place; entry = f .entry; index = i + 1 } ≡ shownOf s c t i
       unfolding shownOf
-      shown-next e = rw (hp, by-key c (t .key) kin o, ← hb, e)
+      shown-next e = rw (hf, by-key c (t .key) kin o, ← hb, e)
 
-      pub shown-still : b ≡ false → record { place = p; index = i } ≡ shownOf s c t i
+      pub shown-still : b ≡ false → record { place = f .place; entry = f .entry; index = i } ≡ shownOf s c t i
       unfolding shownOf
-      shown-still e = rw (hp, by-key c (t .key) kin o, ← hb, e)
+      shown-still e = rw (hf, by-key c (t .key) kin o, ← hb, e)

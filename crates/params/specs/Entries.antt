@@ -14,10 +14,11 @@ use Rattle.rules.specs.declared.Counts.{Counts}
 use Rattle.rules.specs.Base.{if_then_else_, same}
 use Rattle.rules.specs.Tokens.{fromOne}
 use Rattle.rules.specs.Words.{wordAt, placeAt, paramsAt, bodyAt}
-use Rattle.rules.specs.Sheet.{part, keyRead, nameOf, paramsOf}
+use Rattle.rules.specs.Sheet.{bodyPart, keyRead, nameOf, paramsOf}
 use Rattle.rules.specs.Params.{advances, isRefused}
 use Rattle.tokens.specs.Placed.{Inside}
 use Rattle.params.specs.declared.Entry.{Entry}
+use Rattle.params.specs.declared.Found.{Found}
 use Rattle.params.specs.declared.Shown.{Shown}
 
 -- a key's name, if it has one, lies in the bodies
@@ -40,7 +41,7 @@ entryNamed s c n = firstFrom (hasName s c n) 0 (c .params)
 
 unfoldable pub entryKeyed : List ℕ → Counts → PlaceholderKind → Entry
 entryKeyed s c key.Absent = Entry.Nothing
-entryKeyed s c (key.Named p) = entryNamed s c (part s (bodyAt c) p)
+entryKeyed s c (key.Named p) = entryNamed s c (bodyPart s (bodyAt c) p)
 entryKeyed s c (key.Zero n) = entryNamed s c []
 entryKeyed s c (key.One n) = entryNamed s c []
 
@@ -82,13 +83,16 @@ unfoldable pub placeIn : List ℕ → Counts → Place → Entry → Place
 placeIn s c own (Entry.At i) = placeAt s (paramsAt c + 16 * i + 8)
 placeIn s c own Entry.Nothing = own
 
-unfoldable pub placeShown : List ℕ → Counts → Token → ℕ → Place
-placeShown s c t i = placeIn s c (t .value) (entryFor s c (t .key) i)
+unfoldable pub foundOf : List ℕ → Counts → Token → ℕ → Found
+foundOf s c t i =
+    let e = entryFor s c (t .key) i in
+    record { place = placeIn s c (t .value) e; entry = e }
 
 unfoldable pub shownOf : List ℕ → Counts → Token → ℕ → Shown
 shownOf s c t i =
     record {
-      place = placeShown s c t i;
+      place = foundOf s c t i .place;
+      entry = foundOf s c t i .entry;
       index = if advances (paramsOf s c) (keyRead s (bodyAt c) (t .key)) then i + 1 else i;
     }
 

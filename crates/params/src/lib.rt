@@ -4,11 +4,11 @@ ghost use Prim.Native.Nat.{_≤_, _<_};
 ghost use lib.ListN.{length};
 ghost use Rattle.rules.specs.declared.Counts.{Counts};
 ghost use Rattle.rules.specs.Params.{isRefused, offends as offendsBy};
-ghost use Rattle.rules.specs.Sheet.{part, keyRead, paramsOf};
+ghost use Rattle.rules.specs.Sheet.{bodyPart, keyRead, paramsOf};
 ghost use Rattle.rules.specs.Words.{wordAt, bodyAt};
 ghost use Rattle.tokens.specs.Placed.{Inside};
 ghost use Rattle.records.specs.Sheeted.{Sheeted};
-ghost use Rattle.params.specs.Entries.{KeyIn, entryNamed, entryAt, entryFrom, takesNext, entryIndexed, keyRefused, entryKeyed, entryFor, placeShown, shownOf};
+ghost use Rattle.params.specs.Entries.{KeyIn, entryNamed, entryAt, entryFrom, takesNext, entryIndexed, keyRefused, entryKeyed, entryFor, foundOf, shownOf};
 use places::same_places;
 use records::body_at;
 use records::param_name_at;
@@ -29,9 +29,16 @@ pub enum Entry {
     Nothing,
 }
 
-// What is shown, and the counter after it.
+// What is shown, and the entry that it is the value of.
+pub struct Found {
+    pub place: Place,
+    pub entry: Entry,
+}
+
+// The same, and the counter after it.
 pub struct Shown {
     pub place: Place,
+    pub entry: Entry,
     pub index: u32,
 }
 
@@ -47,7 +54,7 @@ fn mode(sheet: &[u8]) -> u32
 
 fn find_by_name(sheet: &[u8], c: Counts, name: Place) -> Entry
     requires { ⌜ (Sheeted (now sheet) c) × (Inside (now sheet) (bodyAt c) name) ⌝ }
-    ensures { λ r. ⌜ r ≡ entryNamed (now (sheet .entry)) c (part (now (sheet .entry)) (bodyAt c) name) ⌝ }
+    ensures { λ r. ⌜ r ≡ entryNamed (now (sheet .entry)) c (bodyPart (now (sheet .entry)) (bodyAt c) name) ⌝ }
 {
     let base = body_at(c);
     let p = c.params;
@@ -138,15 +145,19 @@ pub fn entry_for(sheet: &[u8], c: Counts, key: PlaceholderKind, index: u32) -> E
     find_by_key(sheet, c, key)
 }
 
-fn place_shown(sheet: &[u8], c: Counts, t: Token, index: u32) -> Place
+fn find(sheet: &[u8], c: Counts, t: Token, index: u32) -> Found
     requires { ⌜ (Sheeted (now sheet) c) × (KeyIn (now sheet) (bodyAt c) (t .key)) ⌝ }
-    ensures { λ r. ⌜ r ≡ placeShown (now (sheet .entry)) c t index ⌝ }
+    ensures { λ r. ⌜ r ≡ foundOf (now (sheet .entry)) c t index ⌝ }
 {
     let key = t.key;
+    let own = t.value;
     let entry = entry_for(sheet, c, key, index);
     match entry {
-        Entry::At(i) => param_value_at(sheet, c, i),
-        Entry::Nothing => t.value,
+        Entry::At(i) => {
+            let place = param_value_at(sheet, c, i);
+            Found { place, entry }
+        }
+        Entry::Nothing => Found { place: own, entry },
     }
 }
 
@@ -155,17 +166,28 @@ pub fn get(sheet: &[u8], c: Counts, t: Token, index: u32) -> Shown
     ensures { λ r. ⌜ r ≡ shownOf (now (sheet .entry)) c t index ⌝ }
 {
     let key = t.key;
-    let place = place_shown(sheet, c, t, index);
+    let found = find(sheet, c, t, index);
+    let place = found.place;
+    let entry = found.entry;
     if mode(sheet) != 1 {
-        return Shown { place, index };
+        return Shown {
+            place,
+            entry,
+            index,
+        };
     }
     if takes_next(key) {
         return Shown {
             place,
+            entry,
             index: index + 1,
         };
     }
-    Shown { place, index }
+    Shown {
+        place,
+        entry,
+        index,
+    }
 }
 
 // ---- refusal 5

@@ -6,15 +6,15 @@ use native.Mathlib.Numerals.{add-one}
 use native.Mathlib.Omega.{arith}
 use lib.ListN.{length, length-take, length-drop}
 use Rattle.rules.specs.declared.Place.{Place}
-use Rattle.rules.specs.Sheet.{part, listOf}
+use Rattle.rules.specs.Sheet.{bodyPart, listOf}
 use Rattle.tokens.specs.Placed.{Inside}
 
-pub length-part : (s : List ℕ) (base : ℕ) (p : Place) → Inside s base p → length (part s base p) ≡ p .len
-unfolding part
+pub length-part : (s : List ℕ) (base : ℕ) (p : Place) → Inside s base p → length (bodyPart s base p) ≡ p .len
+unfolding bodyPart
 length-part s base p h = let k = h .inside in simp (length-take, length-drop) (omega arith)
 
-pub part-empty : (s : List ℕ) (base : ℕ) (p : Place) → p .len ≡ 0 → part s base p ≡ []
-unfolding part
+pub part-empty : (s : List ℕ) (base : ℕ) (p : Place) → p .len ≡ 0 → bodyPart s base p ≡ []
+unfolding bodyPart
 part-empty s base p h = rw h
 
 -- of n records those from the i-th on: the i-th and those after it, or none

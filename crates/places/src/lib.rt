@@ -1,7 +1,7 @@
 // Places of the bodies, by their bytes.
 ghost use mathlib.Core.Path.{_≡_};
 ghost use Rattle.rules.specs.Base.{same};
-ghost use Rattle.rules.specs.Sheet.{part};
+ghost use Rattle.rules.specs.Sheet.{bodyPart};
 ghost use Rattle.tokens.specs.Placed.{Inside};
 use ascii::same_bytes;
 use rules::Place;
@@ -9,7 +9,7 @@ use tokens::to_usize;
 
 pub fn same_places(s: &[u8], base: usize, p: Place, q: Place) -> bool
     requires { ⌜ (Inside (now s) base p) × (Inside (now s) base q) ⌝ }
-    ensures { λ r. ⌜ r ≡ same (part (now (s .entry)) base p) (part (now (s .entry)) base q) ⌝ }
+    ensures { λ r. ⌜ r ≡ same (bodyPart (now (s .entry)) base p) (bodyPart (now (s .entry)) base q) ⌝ }
 {
     // One place is read once: it is the same.
     if p.start == q.start {

@@ -27,11 +27,17 @@ pub fn refuse_if(query: &mut [u8], t: Text, b: bool, n: u32) -> Text
 {
     let len = t.len;
     let floor = t.floor;
+    let low = t.low;
     let fault = t.fault;
     if b {
         return text::refuse(query, t, n);
     }
-    Text { len, floor, fault }
+    Text {
+        len,
+        floor,
+        low,
+        fault,
+    }
 }
 
 pub fn trim_if(query: &mut [u8], t: Text, b: bool) -> Text
@@ -40,11 +46,17 @@ pub fn trim_if(query: &mut [u8], t: Text, b: bool) -> Text
 {
     let len = t.len;
     let floor = t.floor;
+    let low = t.low;
     let fault = t.fault;
     if b {
         return text::trim_spaces_end(query, t);
     }
-    Text { len, floor, fault }
+    Text {
+        len,
+        floor,
+        low,
+        fault,
+    }
 }
 
 pub fn blank_if(query: &mut [u8], t: Text, b: bool) -> Text
@@ -53,11 +65,17 @@ pub fn blank_if(query: &mut [u8], t: Text, b: bool) -> Text
 {
     let len = t.len;
     let floor = t.floor;
+    let low = t.low;
     let fault = t.fault;
     if b {
         return text::append_byte(query, t, 32);
     }
-    Text { len, floor, fault }
+    Text {
+        len,
+        floor,
+        low,
+        fault,
+    }
 }
 
 // ---- comments and type specifiers
@@ -68,12 +86,18 @@ fn after_comma_if(query: &mut [u8], t: Text, b: bool) -> Text
 {
     let len = t.len;
     let floor = t.floor;
+    let low = t.low;
     let fault = t.fault;
     if b {
         let cut = text::trim_all_spaces_end(query, t);
         return text::append_repeat(query, cut, 32, 2);
     }
-    Text { len, floor, fault }
+    Text {
+        len,
+        floor,
+        low,
+        fault,
+    }
 }
 
 fn before_line_comment(
@@ -243,11 +267,17 @@ pub fn add_new_line_if(query: &mut [u8], t: Text, b: bool, o: FormatOptions, lev
 {
     let len = t.len;
     let floor = t.floor;
+    let low = t.low;
     let fault = t.fault;
     if b {
         return add_new_line(query, t, o, level);
     }
-    Text { len, floor, fault }
+    Text {
+        len,
+        floor,
+        low,
+        fault,
+    }
 }
 
 pub fn format_no_change(query: &mut [u8], t: Text, sheet: &[u8], v: Value) -> Text

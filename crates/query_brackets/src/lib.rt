@@ -41,11 +41,17 @@ fn one_blank_if(query: &mut [u8], t: Text, b: bool) -> Text
 {
     let len = t.len;
     let floor = t.floor;
+    let low = t.low;
     let fault = t.fault;
     if b {
         return one_blank(query, t);
     }
-    Text { len, floor, fault }
+    Text {
+        len,
+        floor,
+        low,
+        fault,
+    }
 }
 
 fn fold_if(query: &mut [u8], t: Text, b: bool) -> Text
@@ -54,12 +60,18 @@ fn fold_if(query: &mut [u8], t: Text, b: bool) -> Text
 {
     let len = t.len;
     let floor = t.floor;
+    let low = t.low;
     let fault = t.fault;
     if b {
         let cut = trim_all_spaces_end(query, t);
         return append_byte(query, cut, 32);
     }
-    Text { len, floor, fault }
+    Text {
+        len,
+        floor,
+        low,
+        fault,
+    }
 }
 
 fn before_opening(query: &mut [u8], t: Text, how: Opening) -> Text

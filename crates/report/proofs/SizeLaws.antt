@@ -11,7 +11,7 @@ use lib.ListN.{length, take, drop, getD, replicate}
 use lib.Seq.{length-take-le, take-append-seam, drop-drop}
 use borrow.Author.Tests.{eq-eqb, ne-eqb}
 use Rattle.rules.specs.Base.{if_then_else_}
-use Rattle.rules.specs.Text.{Text, fits, refused, isWhite, trimStart, trimmed, change, cutWhite, lineFeeds, lines, widthFrom, width}
+use Rattle.rules.specs.Text.{trimEnd, Text, fits, refused, isWhite, trimStart, trimmed, change, cutWhite, lineFeeds, lines, widthFrom, width}
 use Rattle.ascii.specs.Part.{part, before}
 use Rattle.ascii.proofs.PartLaws.{part-drop}
 use Rattle.text.specs.declared.Text.{Text as Code}
@@ -129,22 +129,27 @@ by-no-size d len z = rw z
 
 -- ---- the report
 
-done : ℕ → ℕ → List ℕ → Finished
-done f n v = record { fault = f; len = n; lines = lines v; width = width v }
+done : ℕ → ℕ → ℕ → List ℕ → Finished
+done f m n v = record { fault = f; end = m; len = n; lines = lines v; width = width v }
 
-reported : {cap : ℕ} {t : Code} {d : List ℕ} (w : Text) → Laid cap (change trimmed w) t d → done (t .fault) (t .len) (take (t .len) d) ≡ finished w
-unfolding done finished codeOf bytesOf
-reported {cap} {t} {d} (fits k b) p =
-    rw (p .code, p .bytes) (ap (done 0 (length (trimmed b))) (take-append-seam (trimmed b) (replicate (cap - length (trimmed b)) 0)))
+-- the length before the start is trimmed
+endOf : Text → ℕ
+endOf (fits k m b) = length (trimEnd isWhite b)
+endOf (refused n) = 0
+
+reported : {cap : ℕ} {t : Code} {d : List ℕ} (w : Text) → Laid cap (change trimmed w) t d → done (t .fault) (endOf w) (t .len) (take (t .len) d) ≡ finished w
+unfolding done endOf finished codeOf bytesOf
+reported {cap} {t} {d} (fits k m b) p =
+    rw (p .code, p .bytes) (ap (done 0 (length (trimEnd isWhite b)) (length (trimmed b))) (take-append-seam (trimmed b) (replicate (cap - length (trimmed b)) 0)))
 reported (refused n) p = rw (p .code)
 
 -- nothing is held at the end
 loosen : Text → Text
-loosen (fits k b) = fits 0 b
+loosen (fits k m b) = fits 0 0 b
 loosen (refused n) = refused n
 
 abbrev loose : Code → Code
-loose t = record { len = t .len; floor = 0; fault = t .fault }
+loose t = record { len = t .len; floor = 0; low = 0; fault = t .fault }
 
 loose-is : (t : Code) (d : List ℕ) → textOf (loose t) d ≡ loosen (textOf t d)
 unfolding loosen
@@ -154,24 +159,32 @@ loose-is t d =
     (λ (z : t .fault ≡ 0 → ⊥). rw (text-refused (loose t) d z, text-refused t d z))
     (zero-or (t .fault))
 
-pub loose-held : (t : Code) (d : List ℕ) → Held t d → Held (record { len = t .len; floor = 0; fault = t .fault }) d
-loose-held t d h = record { within = h .within; floored = omega arith; zeros = h .zeros; empty = h .empty }
+pub loose-held : (t : Code) (d : List ℕ) → Held t d → Held (record { len = t .len; floor = 0; low = 0; fault = t .fault }) d
+loose-held t d h = record { within = h .within; floored = omega arith; lowest = omega arith; zeros = h .zeros; empty = h .empty }
 
 both-ends : (w : Text) → change (trimStart isWhite) (cutWhite (loosen w)) ≡ change trimmed w
 unfolding trimmed loosen
-both-ends (fits k b) = refl
+both-ends (fits k m b) = refl
 both-ends (refused n) = refl
 
-module _ (cap : ℕ) (t : Code) (d : List ℕ) (t₁ t₂ : Code) (d₁ d₂ : List ℕ) (p : Laid cap (cutWhite (textOf (record { len = t .len; floor = 0; fault = t .fault }) d)) t₁ d₁) (q : Laid (length d₁) (change (trimStart isWhite) (textOf t₁ d₁)) t₂ d₂) where
+module _ (cap : ℕ) (t : Code) (d : List ℕ) (t₁ t₂ : Code) (d₁ d₂ : List ℕ) (p : Laid cap (cutWhite (textOf (record { len = t .len; floor = 0; low = 0; fault = t .fault }) d)) t₁ d₁) (q : Laid (length d₁) (change (trimStart isWhite) (textOf t₁ d₁)) t₂ d₂) where
   abbrev w : Text
   w = textOf t d
 
   trims : Laid cap (change trimmed w) t₂ d₂
   trims = relaid refl (ap (λ (z : Text). change (trimStart isWhite) (cutWhite z)) (loose-is t d) ∙ both-ends w) (onward (λ n. change (trimStart isWhite)) p q)
 
-  pub by-finished : (s : Size) → s ≡ sizeOf (take (t₂ .len) d₂) → record { fault = t₂ .fault; len = t₂ .len; lines = s .lines; width = s .width } ≡ finished w
+  cut-at : (v : Text) → codeOf (cutWhite (loosen v)) .len ≡ endOf v
+  unfolding codeOf loosen endOf
+  cut-at (fits k m b) = refl
+  cut-at (refused n) = refl
+
+  end-is : t₁ .len ≡ endOf w
+  end-is = ap (λ (t : Code). t .len) (p .code) ∙ ap (λ (z : Text). codeOf (cutWhite z) .len) (loose-is t d) ∙ cut-at w
+
+  pub by-finished : (s : Size) → s ≡ sizeOf (take (t₂ .len) d₂) → record { fault = t₂ .fault; end = t₁ .len; len = t₂ .len; lines = s .lines; width = s .width } ≡ finished w
   unfolding done
-  by-finished s e = rw e (reported w trims)
+  by-finished s e = rw (e, end-is) (reported w trims)
 
   pub by-trimmed : d₂ ≡ bytesOf cap (change trimmed w)
   by-trimmed = trims .bytes

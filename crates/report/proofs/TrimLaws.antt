@@ -102,7 +102,7 @@ module _ (d : List ℕ) (from n : ℕ) (h : from + n ≤ length d) where
       drop-lowered ∙ rw (e, length-lowered) (replicate-append-replicate from (length d - (n + from)) 0 ∙ rw s)
 
 module _ (t : Code) (d : List ℕ) (h : Held t d) (from : ℕ) (k : from ≤ t .len) (f : drop from (take (t .len) d) ≡ trimStart isWhite (take (t .len) d)) where
-  down : Laid (length d) (change (trimStart isWhite) (textOf t d)) (record { len = t .len - from; floor = 0; fault = t .fault }) (lowered d from (t .len - from))
+  down : Laid (length d) (change (trimStart isWhite) (textOf t d)) (record { len = t .len - from; floor = 0; low = 0; fault = t .fault }) (lowered d from (t .len - from))
   down =
       let w : t .len ≤ length d = h .within in
       let n : ℕ = t .len - from in
@@ -116,24 +116,25 @@ module _ (t : Code) (d : List ℕ) (h : Held t d) (from : ℕ) (k : from ≤ t .
       (record {
         within = omega arith;
         floored = omega arith;
+        lowest = omega arith;
         zeros = zeros-lowered d from n q (rw u (h .zeros));
         empty = λ c. let i = h .empty c in omega arith;
       })
       (⊎-elim
-      (λ (c : t .fault ≡ 0). text-fits _ (lowered d from n) c ∙ ap (fits 0) o ∙ sym (rw (text-fits t d c)))
+      (λ (c : t .fault ≡ 0). text-fits _ (lowered d from n) c ∙ ap (fits 0 0) o ∙ sym (rw (text-fits t d c)))
       (λ (c : t .fault ≡ 0 → ⊥). text-refused _ (lowered d from n) c ∙ sym (rw (text-refused t d c)))
       (zero-or (t .fault)))
 
   pub by-down : (d₁ d₂ : List ℕ) → d₁ ≡ put d 0 (part d from (t .len - from)) → d₂ ≡ put d₁ (t .len - from) (replicate from 0)
-      → Laid (length d) (change (trimStart isWhite) (textOf t d)) (record { len = t .len - from; floor = 0; fault = t .fault }) d₂
+      → Laid (length d) (change (trimStart isWhite) (textOf t d)) (record { len = t .len - from; floor = 0; low = 0; fault = t .fault }) d₂
   by-down d₁ d₂ e g = rw (g, e) down
 
   -- there is none
-  pub by-stays : from ≡ 0 → Laid (length d) (change (trimStart isWhite) (textOf t d)) (record { len = t .len; floor = 0; fault = t .fault }) d
+  pub by-stays : from ≡ 0 → Laid (length d) (change (trimStart isWhite) (textOf t d)) (record { len = t .len; floor = 0; low = 0; fault = t .fault }) d
   by-stays z =
       let o : take (t .len) d ≡ trimStart isWhite (take (t .len) d) = rw z at f in
-      laid _ _ _ _ refl (record { within = h .within; floored = omega arith; zeros = h .zeros; empty = h .empty })
+      laid _ _ _ _ refl (record { within = h .within; floored = omega arith; lowest = omega arith; zeros = h .zeros; empty = h .empty })
       (⊎-elim
-      (λ (c : t .fault ≡ 0). text-fits (record { len = t .len; floor = 0; fault = t .fault }) d c ∙ ap (fits 0) o ∙ sym (rw (text-fits t d c)))
-      (λ (c : t .fault ≡ 0 → ⊥). text-refused (record { len = t .len; floor = 0; fault = t .fault }) d c ∙ sym (rw (text-refused t d c)))
+      (λ (c : t .fault ≡ 0). text-fits (record { len = t .len; floor = 0; low = 0; fault = t .fault }) d c ∙ ap (fits 0 0) o ∙ sym (rw (text-fits t d c)))
+      (λ (c : t .fault ≡ 0 → ⊥). text-refused (record { len = t .len; floor = 0; low = 0; fault = t .fault }) d c ∙ sym (rw (text-refused t d c)))
       (zero-or (t .fault)))

@@ -18,8 +18,10 @@ pub struct Size {
     pub width: usize,
 }
 
+// `end` is the length before the start is trimmed.
 pub struct Finished {
     pub fault: u32,
+    pub end: usize,
     pub len: usize,
     pub lines: usize,
     pub width: usize,
@@ -63,6 +65,7 @@ fn trim_start(text: &mut [u8], t: Text) -> Text
         return Text {
             len,
             floor: 0,
+            low: 0,
             fault: t.fault,
         };
     }
@@ -72,6 +75,7 @@ fn trim_start(text: &mut [u8], t: Text) -> Text
     Text {
         len: left,
         floor: 0,
+        low: 0,
         fault: t.fault,
     }
 }
@@ -123,18 +127,21 @@ pub fn finish(text: &mut [u8], t: Text) -> Finished
     ensures { λ r. ⌜ r ≡ finished (textOf t (now (text .entry))) ⌝ }
     ensures { λ r. ⌜ now (text .exit) ≡ bytesOf (length (now (text .entry))) (change trimmed (textOf t (now (text .entry)))) ⌝ }
 {
-    // At the end nothing is held.
+    // At the end nothing is held, and nobody asks how low it was cut.
     let loose = Text {
         len: t.len,
         floor: 0,
+        low: 0,
         fault: t.fault,
     };
     let cut = trim_all_spaces_end(text, loose);
+    let end = cut.len;
     let done = trim_start(text, cut);
     let len = done.len;
     let size = lines_width(text, len);
     Finished {
         fault: done.fault,
+        end,
         len,
         lines: size.lines,
         width: size.width,

@@ -15,7 +15,7 @@ use Rattle.rules.specs.declared.SpanInfo.{SpanInfo}
 use Rattle.rules.specs.Base.{when, full}
 use Rattle.rules.specs.Text.{Text, inCase, equalizeWhitespace}
 use Rattle.rules.specs.Words.{bodyAt, tokenAt}
-use Rattle.rules.specs.Sheet.{part, envOf}
+use Rattle.rules.specs.Sheet.{bodyPart, envOf}
 use Rattle.rules.specs.State.{State}
 use Rattle.rules.specs.Indentation.{Indentation, indentLevel, increaseTopLevel, setPreviousReserved, previousTopLevelReserved, span}
 use Rattle.rules.specs.InlineBlock.{isActive}
@@ -147,7 +147,7 @@ module _ (s : List ℕ) (x : Context) (i : ℕ) (known : Known s x) (p : Place) 
   pub place-inside : i < x .counts .tokens → Inside s (bodyAt (x .counts)) p
   place-inside here = rw e (known .sheeted .tokens .within i here .value-in)
 
-  pub by-case : (r : Case) → r ≡ caseOf s (x .counts) (x .options .casing) (part s (bodyAt (x .counts)) p) → r ≡ caseOf s (x .counts) (x .options .casing) (wordOf s (x .base) i)
+  pub by-case : (r : Case) → r ≡ caseOf s (x .counts) (x .options .casing) (bodyPart s (bodyAt (x .counts)) p) → r ≡ caseOf s (x .counts) (x .options .casing) (wordOf s (x .base) i)
   by-case r h = h ∙ rw (e, known .base)
 
 module _ (s : List ℕ) (x : Context) (i : ℕ) (known : Known s x) (v : Value) (ev : v ≡ valueIn s x i) (k : Case) (ek : k ≡ caseOf s (x .counts) (x .options .casing) (wordOf s (x .base) i)) where

@@ -14,18 +14,18 @@ use Rattle.rules.specs.Answer.{Answer, laid, refusal, answerAs, answer, 
 use Rattle.rules.specs.Due.{strip, dueIn, dueOf, Faithful}
 use Rattle.rules.proofs.Keeps.{StripsTo, keeps}
 
-by-checked : (s : List ℕ) (room : ℕ) (c : Checked) → StripsTo (answerAs s room c) (dueIn s c)
+pub by-checked : (s : List ℕ) (room : ℕ) (c : Checked) → StripsTo (answerAs s room c) (dueIn s c)
 unfolding answerAs dueIn envOf
 by-checked s room (found.Sound c) = keeps (envOf s c room) (tokensOf s c)
-by-checked s room found.Size = λ z. omega arith
-by-checked s room (found.Word p) = λ z. omega arith
-by-checked s room (found.Place p) = λ z. omega arith
-by-checked s room (found.Byte p) = λ z. omega arith
+by-checked s room found.Size = (omega arith, omega arith)
+by-checked s room (found.Word p) = (omega arith, omega arith)
+by-checked s room (found.Place p) = (omega arith, omega arith)
+by-checked s room (found.Byte p) = (omega arith, omega arith)
 
-in-buffer : (a : Answer) (room : ℕ) (v : List ℕ) → StripsTo a v → reportOf a .refusal ≡ 0 → strip (take (reportOf a .length) (bufferOf room a)) ≡ v
+pub in-buffer : (a : Answer) (room : ℕ) (v : List ℕ) → StripsTo a v → reportOf a .refusal ≡ 0 → strip (take (reportOf a .length) (bufferOf room a)) ≡ v
 unfolding reportOf bufferOf
 in-buffer (laid b l w) room v k z = rw (take-append-seam b _) k
-in-buffer (refusal n p) room v k z = absurd (k z)
+in-buffer (refusal n p) room v k z = absurd (let h = k .0 in omega arith)
 
 -- any bytes, any buffer: where the call refuses nothing, the text in its buffer is, without its white bytes, what is due
 pub call-keeps : (s : List ℕ) (room : ℕ) → Faithful s (reported s room) (bufferAfter s room)

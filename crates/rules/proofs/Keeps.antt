@@ -8,18 +8,16 @@ use native.Mathlib.Omega.{arith}
 use lib.ListN.{length}
 use Rattle.rules.specs.declared.TokenKind.{TokenKind}
 use Rattle.rules.specs.declared.TokenKind.the-variants as kind
-use Rattle.rules.specs.declared.Turn.{Turn}
-use Rattle.rules.specs.declared.Turn.the-variants as turn
 use Rattle.rules.specs.Base.{if_then_else_, when}
 use Rattle.rules.specs.Tokens.{Key, absent, named, zeroIndexed, oneIndexed, Token, Here}
 use Rattle.rules.specs.Sheet.{Env, QueryParams, None, Indexed, Named}
-use Rattle.rules.specs.Text.{Text, fits, refused}
+use Rattle.rules.specs.Text.{Text, fits, refused, mark}
 use Rattle.rules.specs.Switch.{Switch, turnBy, turnOf, switchAfter, switchedOn}
 use Rattle.rules.specs.Params.{get, advances, offends}
-use Rattle.rules.specs.State.{State, start, onIndex}
+use Rattle.rules.specs.State.{State, start, onText, onIndex}
 use Rattle.rules.specs.Formatter.{spanInfo, formatReservedWord, formatPlaceholder, formatToken, formatNoChange}
 use Rattle.rules.specs.InlineBlock.{buildInfo}
-use Rattle.rules.specs.Answer.{Answer, laid, refusal, takenAs, report, unlessRefused, finish, formatFrom, format}
+use Rattle.rules.specs.Answer.{Answer, laid, refusal, takenAs, report, unlessRefused, finish, taken, formatFrom, format}
 use Rattle.rules.specs.Due.{strip, Piece, own, cased, filled, roleOf, keptOn, switches, keptBy, onAfter, isSwitch, keptTokens, entryOf, isNext, countNext, shows, dueFrom, due}
 use Rattle.rules.proofs.Strip.{strip-trimmed}
 use Rattle.rules.proofs.Own.{word-is, filled-is, switch-is}
@@ -28,7 +26,7 @@ use Rattle.rules.proofs.Adds
 -- ---- the counter is the count of those before
 
 -- the counter, under the sheet's parameters, once those before were laid out
-unfoldable counter : QueryParams → List Piece → ℕ
+unfoldable pub counter : QueryParams → List Piece → ℕ
 counter None before = 0
 counter (Named ps) before = 0
 counter (Indexed vs) before = countNext before
@@ -70,31 +68,31 @@ filled-counted (Named ps) k v before = refl
 filled-counted (Indexed vs) k v before = rw (advances-is vs k)
 
 -- from s to u, v is added, and the counter is n
-record Lays (s u : State) (v : List ℕ) (n : ℕ) : Type 0 where
+pub record Lays (s u : State) (v : List ℕ) (n : ℕ) : Type 0 where
   pub grown : Adds.Grown (s .text) (u .text) v
   pub count : u .index ≡ n
 
 moves : (b : Bool) {s u : State} {v : List ℕ} → Adds.Adds s u v → Lays s (when b (onIndex suc) u) v (if b then suc (s .index) else s .index)
 unfolding when onIndex
-moves true p = record { grown = p .grown; count = ap suc (p .counted) }
-moves false p = record { grown = p .grown; count = p .counted }
+moves true p = record { grown = p .goes .grown; count = ap suc (p .counted) }
+moves false p = record { grown = p .goes .grown; count = p .counted }
 
 placeholder : (e : Env) (t : Token) {s : State} → Lays s (formatPlaceholder e t s) (strip (get (e .params) (t .key) (s .index) (t .value))) (if advances (e .params) (t .key) then suc (s .index) else s .index)
 unfolding formatPlaceholder
-placeholder e t = moves (advances (e .params) (t .key)) (Adds._quietly_ (Adds._then_ (Adds.refuses (offends (e .params) (t .key)) 5 (λ z. omega arith)) (Adds.pushes e _)) (Adds.blank e))
+placeholder e t = moves (advances (e .params) (t .key)) (Adds._quietly_ (Adds._then_ (Adds.refuses (offends (e .params) (t .key)) 5 (omega arith, omega arith)) (Adds.pushes e _)) (Adds.blank e))
 
 -- ---- what is due of some tokens, then of others
 
 -- these before those that were before
-abbrev onto : List Piece → List Piece → List Piece
+abbrev pub onto : List Piece → List Piece → List Piece
 onto [] before = before
 onto (x ∷ xs) before = onto xs (x ∷ before)
 
 -- what is due under the options of e
-abbrev dueBy : Env → List Piece → List Piece → List ℕ
+abbrev pub dueBy : Env → List Piece → List Piece → List ℕ
 dueBy e before xs = dueFrom (e .params) (e .keep) (e .options .casing) before xs
 
-due-append : (e : Env) (before xs ys : List Piece) → dueBy e before (xs ++ ys) ≡ dueBy e before xs ++ dueBy e (onto xs before) ys
+pub due-append : (e : Env) (before xs ys : List Piece) → dueBy e before (xs ++ ys) ≡ dueBy e before xs ++ dueBy e (onto xs before) ys
 unfolding dueFrom
 due-append e before [] ys = refl
 due-append e before (x ∷ xs) ys = rw (due-append e (x ∷ before) xs ys) (sym (append-assoc (strip (shows (e .params) (e .keep) (e .options .casing) before x)) (dueBy e (x ∷ before) xs) (dueBy e (onto xs (x ∷ before)) ys)))
@@ -102,21 +100,21 @@ due-append e before (x ∷ xs) ys = rw (due-append e (x ∷ before) xs ys) (sym 
 -- ---- one token
 
 -- what a token adds to the text and to the count: xs, what is kept of it
-abbrev LaysOut : Env → List Piece → State → State → List Piece → Type 0
+abbrev pub LaysOut : Env → List Piece → State → State → List Piece → Type 0
 LaysOut e before s u xs = Lays s u (dueBy e before xs) (counter (e .params) (onto xs before))
 
 module _ (e : Env) (h : Here) (before : List Piece) (s : State) (sync : s .index ≡ counter (e .params) before) where
   lays-nothing : LaysOut e before s s []
   unfolding dueFrom
-  lays-nothing = record { grown = Adds.same-text {s = s} {u = s} refl refl .grown; count = sync }
+  lays-nothing = record { grown = Adds.same-text {s = s} {u = s} refl refl .goes .grown; count = sync }
 
   lays-own : (v : List ℕ) {u : State} → Adds.Adds s u (strip v) → LaysOut e before s u (own v ∷ [])
   unfolding dueFrom
-  lays-own v p = record { grown = rw (append-nil (strip v)) (p .grown); count = p .counted ∙ sync ∙ sym (own-uncounted (e .params) v before) }
+  lays-own v p = record { grown = rw (append-nil (strip v)) (p .goes .grown); count = p .counted ∙ sync ∙ sym (own-uncounted (e .params) v before) }
 
   lays-word : (v : List ℕ) {u : State} → Adds.Adds s u (strip (formatReservedWord e v)) → LaysOut e before s u (cased v ∷ [])
   unfolding dueFrom
-  lays-word v p = record { grown = rw (append-nil _, ← word-is e v) (p .grown); count = p .counted ∙ sync ∙ sym (cased-uncounted (e .params) v before) }
+  lays-word v p = record { grown = rw (append-nil _, ← word-is e v) (p .goes .grown); count = p .counted ∙ sync ∙ sym (cased-uncounted (e .params) v before) }
 
   lays-parameter : (t : Token) → LaysOut e before s (formatPlaceholder e t s) (filled (t .key) (t .value) ∷ [])
   unfolding dueFrom
@@ -158,18 +156,18 @@ module _ (e : Env) (h : Here) (before : List Piece) (s : State) (sync : s .index
 -- ---- the switch
 
 -- what is kept of one token, the switch being on or off, the token before a switch comment or not
-abbrev keptHere : Bool → Bool → Token → List Piece
+abbrev pub keptHere : Bool → Bool → Token → List Piece
 keptHere on true t = []
 keptHere on false t = keptBy (switches (roleOf (t .kind)) (t .value)) on t
 
-abbrev nextSwitch : Bool → Bool → Token → Switch
+abbrev pub nextSwitch : Bool → Bool → Token → Switch
 nextSwitch on drop t = let w : Switch = record { enabled = on; dropNext = drop } in switchAfter (turnOf w (t .kind) (t .value)) w
 
 -- those kept from a switch on
-abbrev keptAfter : Switch → List Token → List Piece
+abbrev pub keptAfter : Switch → List Token → List Piece
 keptAfter w ts = keptTokens (w .enabled) (w .dropNext) ts
 
-kept-step : (on drop : Bool) (t : Token) (ts : List Token) → keptTokens on drop (t ∷ ts) ≡ keptHere on drop t ++ keptAfter (nextSwitch on drop t) ts
+pub kept-step : (on drop : Bool) (t : Token) (ts : List Token) → keptTokens on drop (t ∷ ts) ≡ keptHere on drop t ++ keptAfter (nextSwitch on drop t) ts
 unfolding keptTokens turnOf turnBy switchAfter
 kept-step on true t ts = refl
 kept-step on false t ts = rw (switch-is (t .kind) (t .value)) (go (switches (roleOf (t .kind)) (t .value)) on)
@@ -180,7 +178,7 @@ kept-step on false t ts = rw (switch-is (t .kind) (t .value)) (go (switches (rol
     go none true = refl
     go none false = refl
 
-lays-step : (e : Env) (h : Here) (before : List Piece) (s : State) → s .index ≡ counter (e .params) before → (on drop : Bool)
+pub lays-step : (e : Env) (h : Here) (before : List Piece) (s : State) → s .index ≡ counter (e .params) before → (on drop : Bool)
     → LaysOut e before s (takenAs (turnOf (record { enabled = on; dropNext = drop }) (h .token .kind) (h .token .value)) e h s) (keptHere on drop (h .token))
 unfolding turnOf takenAs
 lays-step e h before s sync on true = lays-nothing e h before s sync
@@ -191,31 +189,32 @@ lays-step e h before s sync on false = rw (switch-is (h .token .kind) (h .token 
 -- a text that is laid out strips to v; a refusal has a number
 abbrev pub StripsTo : Answer → List ℕ → Type 0
 StripsTo (laid b l w) v = strip b ≡ v
-StripsTo (refusal n p) v = n ≡ 0 → ⊥
+StripsTo (refusal n p) v = Adds.Numbered n
 
 -- one step and the rest: d is added by the step, r by the rest
-keeps-next : (x : Text) (place : ℕ) (rest : Answer) (k : ℕ) (a d r : List ℕ) → Adds.Grown (fits k a) x d → ((l : ℕ) (c : List ℕ) → x ≡ fits l c → StripsTo rest (strip c ++ r)) → StripsTo (unlessRefused x place rest) (strip a ++ (d ++ r))
+keeps-next : (x : Text) (place : ℕ) (rest : Answer) (k m : ℕ) (a d r : List ℕ) → Adds.Grown (fits k m a) x d → ((l n : ℕ) (c : List ℕ) → x ≡ fits l n c → StripsTo rest (strip c ++ r)) → StripsTo (unlessRefused x place rest) (strip a ++ (d ++ r))
 unfolding unlessRefused
-keeps-next (fits l c) place rest k a d r g ih = rw (← append-assoc (strip a) d r, ← g) (ih l c refl)
-keeps-next (refused n) place rest k a d r g ih = g
+keeps-next (fits l n c) place rest k m a d r g ih = rw (← append-assoc (strip a) d r, ← g) (ih l n c refl)
+keeps-next (refused n) place rest k m a d r g ih = g
 
-keeps-from : (e : Env) (before ts : List Token) (taken : List Piece) (w : Switch) (s : State) (k : ℕ) (a : List ℕ) → s .text ≡ fits k a → s .index ≡ counter (e .params) taken
-    → StripsTo (formatFrom e before ts w s) (strip a ++ dueBy e taken (keptAfter w ts))
-unfolding formatFrom keptTokens dueFrom finish report
-keeps-from e before [] taken w s k a h sync = rw h (strip-trimmed a ∙ sym (append-nil (strip a)))
-keeps-from e before (t ∷ ts) taken w s k a h sync =
+keeps-from : (e : Env) (before ts : List Token) (past : List Piece) (w : Switch) (s : State) (k m : ℕ) (a : List ℕ) → s .text ≡ fits k m a → s .index ≡ counter (e .params) past
+    → StripsTo (formatFrom e before ts w s) (strip a ++ dueBy e past (keptAfter w ts))
+unfolding formatFrom keptTokens dueFrom finish report unlessRefused taken onText
+keeps-from e before [] past w s k m a h sync = rw h (strip-trimmed a ∙ sym (append-nil (strip a)))
+keeps-from e before (t ∷ ts) past w s k m a h sync =
     let here : Here = record { before = before; token = t; after = ts } in
     let xs : List Piece = keptHere (w .enabled) (w .dropNext) t in
     let after : Switch = nextSwitch (w .enabled) (w .dropNext) t in
     let rest : List Piece = keptAfter after ts in
-    let done : State = takenAs (turnOf w (t .kind) (t .value)) e here s in
-    let lays : LaysOut e taken s done xs = lays-step e here taken s sync (w .enabled) (w .dropNext) in
-    rw (kept-step (w .enabled) (w .dropNext) t ts, due-append e taken xs rest)
-    (keeps-next (done .text) (length before) (formatFrom e (t ∷ before) ts after done) k a (dueBy e taken xs) (dueBy e (onto xs taken) rest)
-    (subst (λ (x : Text). Adds.Grown x (done .text) (dueBy e taken xs)) h (lays .grown))
-    (λ l c q. keeps-from e (t ∷ before) ts (onto xs taken) after done l c q (lays .count)))
+    let from : State = onText mark s in
+    let done : State = takenAs (turnOf w (t .kind) (t .value)) e here from in
+    let lays : LaysOut e past from done xs = lays-step e here past from sync (w .enabled) (w .dropNext) in
+    rw (kept-step (w .enabled) (w .dropNext) t ts, due-append e past xs rest)
+    (keeps-next (done .text) (length before) (formatFrom e (t ∷ before) ts after done) k (length a) a (dueBy e past xs) (dueBy e (onto xs past) rest)
+    (subst (λ (x : Text). Adds.Grown (mark x) (done .text) (dueBy e past xs)) h (lays .grown))
+    (λ l n c q. keeps-from e (t ∷ before) ts (onto xs past) after done l n c q (lays .count)))
 
-counter-none : (ps : QueryParams) → 0 ≡ counter ps []
+pub counter-none : (ps : QueryParams) → 0 ≡ counter ps []
 unfolding counter countNext
 counter-none None = refl
 counter-none (Named ps) = refl
@@ -224,4 +223,4 @@ counter-none (Indexed vs) = refl
 -- the theorem
 pub keeps : (e : Env) (ts : List Token) → StripsTo (format e ts) (due (e .params) (e .keep) (e .options .casing) ts)
 unfolding format due start switchedOn
-keeps e ts = keeps-from e [] ts [] switchedOn start 0 [] refl (counter-none (e .params))
+keeps e ts = keeps-from e [] ts [] switchedOn start 0 0 [] refl (counter-none (e .params))

@@ -1,6 +1,11 @@
 pub mod Strip
 pub mod Own
+pub mod Kept
 pub mod Adds
 pub mod Keeps
+pub mod Stretch
+pub mod Rows
 pub mod Call
+pub mod Sourced
+pub mod Listed
 pub mod Tables

@@ -6,19 +6,22 @@ use mathlib.Core.List.{List, [], _∷_, map}
 use Prim.Native.Nat.{ℕ, zero, suc, _+_, _-_, _≤_, _<_}
 use native.Mathlib.Omega.{arith}
 use native.Mathlib.Numerals.{sub-one}
-use lib.Dec.{eqb, leb, eqb·suc-zero}
-use borrow.Author.Tests.{leb-true, leb-false, eqb-true, eqb-false}
+use lib.Dec.{eqb, leb, ltb, eqb·suc-zero}
+use lib.ListN.{length}
+use borrow.Author.Tests.{leb-true, leb-false, ltb-true, ltb-false, eqb-true, eqb-false}
 use Rattle.rules.specs.declared.TokenKind.{TokenKind}
 use Rattle.rules.specs.declared.TokenKind.the-variants as kind
 use Rattle.rules.specs.declared.Case.{Case}
 use Rattle.rules.specs.declared.Case.the-variants as case
 use Rattle.rules.specs.declared.OneIndexed.{OneIndexed}
-use Rattle.rules.specs.Base.{if_then_else_, same, anyOf, first, nth?, orElse}
+use Rattle.rules.specs.declared.Index.{Index}
+use Rattle.rules.specs.declared.Index.the-variants as index
+use Rattle.rules.specs.Base.{if_then_else_, same, anyOf, find, nth?, orElse}
 use Rattle.rules.specs.Tokens.{Key, absent, named, zeroIndexed, oneIndexed, fromOne}
 use Rattle.rules.specs.Sheet.{Env, Param, QueryParams, None, Indexed, Named}
 use Rattle.rules.specs.Text.{toUpper, toLower, byteInCase, inCase}
 use Rattle.rules.specs.Switch as rules
-use Rattle.rules.specs.Params.{valueIn, byName, byIndex, entry, get}
+use Rattle.rules.specs.Params.{byName, byNumber, byIndex, source, valueIn, valueAt, valueFrom, entry, get}
 use Rattle.rules.specs.Formatter.{caseFor, formatReservedWord}
 use Rattle.rules.specs.Due.{roleOf, switches, across, smalls, capitals, letterIn, inAskedCase, oneBased, calledBy, entryOf}
 
@@ -95,35 +98,118 @@ word-is e v = go (anyOf (same v) (e .keep))
 
 -- ---- a placeholder's entry
 
-called-is : (n : List ℕ) (ps : List Param) → byName ps n ≡ calledBy n ps
-unfolding byName valueIn
-called-is n [] = refl
-called-is n (p ∷ ps) = go (same (p .name) n) (called-is n ps)
+-- past the end there is none
+nth-past : (vs : List (List ℕ)) (n : ℕ) → length vs ≤ n → nth? vs n ≡ none
+nth-past [] n h = refl
+nth-past (v ∷ vs) zero h = absurd (omega arith)
+nth-past (v ∷ vs) (suc n) h = nth-past vs n (omega arith)
+
+number-is : (vs : List (List ℕ)) (n : ℕ) → valueFrom (Indexed vs) (byNumber vs n) ≡ nth? vs n
+unfolding byNumber valueFrom valueAt
+number-is vs n = go (ltb n (length vs)) refl
   where
-    go : (b : Bool) → byName ps n ≡ calledBy n ps → valueIn (if b then some p else first (λ (q : Param). same (q .name) n) ps) ≡ (if b then some (p .value) else calledBy n ps)
+    go : (b : Bool) → ltb n (length vs) ≡ b → valueFrom (Indexed vs) (if b then some n else none) ≡ nth? vs n
+    go true e = refl
+    go false e = sym (nth-past vs n (ltb-false n (length vs) e))
+
+-- counted from one more, an entry's number is one more
+abbrev oneOn : Option ℕ → Option ℕ
+oneOn none = none
+oneOn (some n) = some (suc n)
+
+find-on : (q : Param → Bool) (n : ℕ) (ps : List Param) → find q (suc n) ps ≡ oneOn (find q n ps)
+find-on q n [] = refl
+find-on q n (p ∷ ps) = go (q p) (find-on q (suc n) ps)
+  where
+    go : (b : Bool) → find q (suc (suc n)) ps ≡ oneOn (find q (suc n) ps) → (if b then some (suc n) else find q (suc (suc n)) ps) ≡ oneOn (if b then some n else find q (suc n) ps)
     go true ih = refl
     go false ih = ih
 
-numbered-is : (vs : List (List ℕ)) (n : OneIndexed) → byIndex vs (fromOne n) ≡ oneBased vs (n .0)
-unfolding byIndex
+value-on : (p : Param) (ps : List Param) (o : Option ℕ) → valueFrom (Named (p ∷ ps)) (oneOn o) ≡ valueFrom (Named ps) o
+unfolding valueFrom valueAt
+value-on p ps none = refl
+value-on p ps (some n) = refl
+
+called-is : (n : List ℕ) (ps : List Param) → valueFrom (Named ps) (byName ps n) ≡ calledBy n ps
+unfolding byName valueFrom valueAt valueIn
+called-is n [] = refl
+called-is n (p ∷ ps) = go (same (p .name) n) (called-is n ps)
+  where
+    go : (b : Bool) → valueFrom (Named ps) (byName ps n) ≡ calledBy n ps
+        → valueFrom (Named (p ∷ ps)) (if b then some 0 else find (λ (q : Param). same (q .name) n) 1 ps) ≡ (if b then some (p .value) else calledBy n ps)
+    go true ih = refl
+    go false ih = rw (find-on (λ (q : Param). same (q .name) n) 0 ps) (value-on p ps (byName ps n) ∙ ih)
+
+numbered-is : (vs : List (List ℕ)) (n : OneIndexed) → valueFrom (Indexed vs) (byIndex vs (fromOne n)) ≡ oneBased vs (n .0)
+unfolding byIndex valueFrom
 numbered-is vs n = go (n .0)
   where
-    go : (m : ℕ) → byIndex vs (fromOne (record { 0 = m })) ≡ oneBased vs m
+    go : (m : ℕ) → valueFrom (Indexed vs) (byIndex vs (fromOne (record { 0 = m }))) ≡ oneBased vs m
     go zero = refl
-    go (suc m) = rw (eqb·suc-zero m) (ap (nth? vs) (sub-one (suc m)))
+    go (suc m) = rw (eqb·suc-zero m) (number-is vs (suc m - 1) ∙ ap (nth? vs) (sub-one (suc m)))
 
 entry-is : (ps : QueryParams) (k : Key) (i : ℕ) → entry ps k i ≡ entryOf ps k i
-unfolding entry byIndex
+unfolding entry source byIndex valueFrom
 entry-is None k i = refl
-entry-is (Indexed vs) absent i = refl
-entry-is (Indexed vs) (named []) i = refl
+entry-is (Indexed vs) absent i = number-is vs i
+entry-is (Indexed vs) (named []) i = number-is vs i
 entry-is (Indexed vs) (named (c ∷ n)) i = refl
-entry-is (Indexed vs) (zeroIndexed n) i = refl
+entry-is (Indexed vs) (zeroIndexed n) i = number-is vs (n .0)
 entry-is (Indexed vs) (oneIndexed n) i = numbered-is vs n
 entry-is (Named ps) absent i = refl
 entry-is (Named ps) (named n) i = called-is n ps
 entry-is (Named ps) (zeroIndexed n) i = called-is [] ps
 entry-is (Named ps) (oneIndexed n) i = called-is [] ps
+
+-- an entry's number has a value
+abbrev pub Found : QueryParams → Option ℕ → Type 0
+Found ps none = Unit {0}
+Found ps (some n) = (v : List ℕ) × (valueAt ps n ≡ some v)
+
+nth-within : (vs : List (List ℕ)) (n : ℕ) → n < length vs → (v : List ℕ) × (nth? vs n ≡ some v)
+nth-within [] n h = absurd (omega arith)
+nth-within (v ∷ vs) zero h = (v, refl)
+nth-within (v ∷ vs) (suc n) h = nth-within vs n (omega arith)
+
+found-number : (vs : List (List ℕ)) (n : ℕ) → Found (Indexed vs) (byNumber vs n)
+unfolding byNumber valueAt
+found-number vs n = go (ltb n (length vs)) refl
+  where
+    go : (b : Bool) → ltb n (length vs) ≡ b → Found (Indexed vs) (if b then some n else none)
+    go true e = nth-within vs n (ltb-true n (length vs) e)
+    go false e = tt
+
+found-on : (p : Param) (ps : List Param) (o : Option ℕ) → Found (Named ps) o → Found (Named (p ∷ ps)) (oneOn o)
+unfolding valueAt
+found-on p ps none f = tt
+found-on p ps (some n) f = f
+
+found-name : (n : List ℕ) (ps : List Param) → Found (Named ps) (byName ps n)
+unfolding byName valueAt valueIn
+found-name n [] = tt
+found-name n (p ∷ ps) = go (same (p .name) n) (found-name n ps)
+  where
+    go : (b : Bool) → Found (Named ps) (byName ps n) → Found (Named (p ∷ ps)) (if b then some 0 else find (λ (q : Param). same (q .name) n) 1 ps)
+    go true ih = (p .value, refl)
+    go false ih = rw (find-on (λ (q : Param). same (q .name) n) 0 ps) (found-on p ps (byName ps n) ih)
+
+found-index : (vs : List (List ℕ)) (n : Index) → Found (Indexed vs) (byIndex vs n)
+unfolding byIndex
+found-index vs (index.At n) = found-number vs (n .0)
+found-index vs index.Refused = tt
+
+pub found-source : (ps : QueryParams) (k : Key) (i : ℕ) → Found ps (source ps k i)
+unfolding source
+found-source None k i = tt
+found-source (Indexed vs) absent i = found-number vs i
+found-source (Indexed vs) (named []) i = found-number vs i
+found-source (Indexed vs) (named (c ∷ n)) i = tt
+found-source (Indexed vs) (zeroIndexed n) i = found-index vs (index.At n)
+found-source (Indexed vs) (oneIndexed n) i = found-index vs (fromOne n)
+found-source (Named ps) absent i = tt
+found-source (Named ps) (named n) i = found-name n ps
+found-source (Named ps) (zeroIndexed n) i = found-name [] ps
+found-source (Named ps) (oneIndexed n) i = found-name [] ps
 
 pub filled-is : (ps : QueryParams) (k : Key) (i : ℕ) (v : List ℕ) → get ps k i v ≡ orElse v (entryOf ps k i)
 unfolding get

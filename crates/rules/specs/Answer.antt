@@ -8,11 +8,11 @@ use Rattle.rules.specs.declared.Checked.{Checked}
 use Rattle.rules.specs.declared.Checked.the-variants as found
 use Rattle.rules.specs.declared.Report.{Report}
 use Rattle.rules.specs.Tokens.{Token, Here}
-use Rattle.rules.specs.Text.{Text, fits, refused, trimmed, lines, width}
+use Rattle.rules.specs.Text.{Text, fits, refused, mark, bytesIn, trimmed, lines, width}
 use Rattle.rules.specs.Checks.{checked}
 use Rattle.rules.specs.Sheet.{Env, envOf, tokensOf}
 use Rattle.rules.specs.Switch.{Switch, turnOf, switchAfter, switchedOn}
-use Rattle.rules.specs.State.{State, start}
+use Rattle.rules.specs.State.{State, start, onText}
 use Rattle.rules.specs.Formatter.{formatToken, formatNoChange}
 
 -- a text with its lines and its width; or a refusal's number and place
@@ -33,19 +33,23 @@ report b = laid b (lines b) (width b)
 
 -- the answer of a working text: a refusal, given at a place; else what follows
 unfoldable pub unlessRefused : Text → ℕ → Answer → Answer
-unlessRefused (fits k b) place later = later
+unlessRefused (fits k m b) place later = later
 unlessRefused (refused n) place later = refusal n place
 
-unfoldable pub finish : Text → Answer
-finish (fits k b) = report (trimmed b)
-finish (refused n) = refusal n 0
+-- the run stands at a place with a text that is done
+unfoldable pub finish : ℕ → Text → Answer
+finish place w = unlessRefused w place (report (trimmed (bytesIn w)))
+
+-- a token is taken; how low the text was cut is asked from here on
+unfoldable pub taken : Turn → Env → Here → State → State
+taken turn e h s = takenAs turn e h (onText mark s)
 
 -- before: the tokens that were taken, the last of them first
 unfoldable pub formatFrom : Env → List Token → List Token → Switch → State → Answer
-formatFrom e before [] w s = finish (s .text)
+formatFrom e before [] w s = finish (length before) (s .text)
 formatFrom e before (t ∷ after) w s =
     let turn = turnOf w (t .kind) (t .value) in
-    let s′ = takenAs turn e (record { before = before; token = t; after = after }) s in
+    let s′ = taken turn e (record { before = before; token = t; after = after }) s in
     let rest = formatFrom e (t ∷ before) after (switchAfter turn w) s′ in
     unlessRefused (s′ .text) (length before) rest
 

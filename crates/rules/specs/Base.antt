@@ -41,6 +41,11 @@ abbrev pub first {ℓ} : {A : Type ℓ} → (A → Bool) → List A → Option A
 first p [] = none
 first p (x ∷ xs) = if p x then some x else first p xs
 
+-- the number of the first element with p, counted from n
+abbrev pub find {ℓ} : {A : Type ℓ} → (A → Bool) → ℕ → List A → Option ℕ
+find p n [] = none
+find p n (x ∷ xs) = if p x then some n else find p (suc n) xs
+
 abbrev pub head? {ℓ} : {A : Type ℓ} → List A → Option A
 head? [] = none
 head? (x ∷ xs) = some x

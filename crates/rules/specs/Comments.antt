@@ -7,7 +7,7 @@ use Rattle.rules.specs.declared.TokenKind.the-variants as kind
 use Rattle.rules.specs.Tokens.{Token}
 use Rattle.rules.specs.Encode.{encode}
 use Rattle.rules.specs.Answer.{refusal}
-use Rattle.rules.specs.Computed.{Row, given, wanted, computed}
+use Rattle.rules.specs.Computed.{Sample, given, wanted, computed}
 use Rattle.rules.specs.Sheets.{tok, W, T, unset, ample, text, plain, sheet8, CREATE}
 
 -- ---- short names
@@ -34,7 +34,7 @@ typed = W "a" ∷ L "-- c" ∷ typeT ∷ []
 abbrev fed : List Token
 fed = L "-- c\n" ∷ []
 
-abbrev pub commented : List Row
+abbrev pub commented : List Sample
 commented =
     plain (inlineAt 0) typed ample (text "a -- c::t" 1 9)
     ∷ plain (inlineAt 1) typed ample (text "a -- c::t" 1 9)

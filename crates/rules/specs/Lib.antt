@@ -13,8 +13,11 @@ pub mod Switch
 pub mod State
 pub mod Formatter
 pub mod Answer
+pub mod Rows
 pub mod Computed
 pub mod Encode
 pub mod Sheets
 pub mod Comments
+pub mod Pointing
 pub mod Due
+pub mod Shown

@@ -1,38 +1,61 @@
--- params.rs: what a placeholder shows.
+-- params.rs: which entry a placeholder shows, and what is shown.
 use mathlib.Core.Bool.{Bool, true, false}
 use mathlib.Core.Option.{Option, none, some}
 use mathlib.Core.List.{List, [], _∷_}
 use Prim.Native.Nat.{ℕ}
+use lib.Dec.{ltb}
+use lib.ListN.{length}
 use Rattle.rules.specs.declared.Index.{Index}
 use Rattle.rules.specs.declared.Index.the-variants as index
-use Rattle.rules.specs.Base.{same, first, nth?, orElse}
+use Rattle.rules.specs.Base.{if_then_else_, same, find, nth?, orElse}
 use Rattle.rules.specs.Tokens.{Key, absent, named, zeroIndexed, oneIndexed, fromOne}
 use Rattle.rules.specs.Sheet.{Param, QueryParams, None, Indexed, Named}
+
+-- ---- the lookup: an entry's number, counted from nought, or none
+
+-- the first entry whose name equals
+unfoldable pub byName : List Param → List ℕ → Option ℕ
+byName ps n = find (λ (p : Param). same (p .name) n) 0 ps
+
+unfoldable pub byNumber : List (List ℕ) → ℕ → Option ℕ
+byNumber vs n = if ltb n (length vs) then some n else none
+
+unfoldable pub byIndex : List (List ℕ) → Index → Option ℕ
+byIndex vs (index.At n) = byNumber vs (n .0)
+byIndex vs index.Refused = none
+
+-- the entry that fits a key, i being the counter; a number has the name ""
+unfoldable pub source : QueryParams → Key → ℕ → Option ℕ
+source None k i = none
+source (Named ps) absent i = none
+source (Named ps) (named n) i = byName ps n
+source (Named ps) (zeroIndexed n) i = byName ps []
+source (Named ps) (oneIndexed n) i = byName ps []
+source (Indexed vs) absent i = byNumber vs i
+source (Indexed vs) (named []) i = byNumber vs i
+source (Indexed vs) (named (c ∷ n)) i = none
+source (Indexed vs) (zeroIndexed n) i = byIndex vs (index.At n)
+source (Indexed vs) (oneIndexed n) i = byIndex vs (fromOne n)
+
+-- ---- what is shown
 
 unfoldable pub valueIn : Option Param → Option (List ℕ)
 valueIn none = none
 valueIn (some p) = some (p .value)
 
--- the first entry whose name equals
-unfoldable pub byName : List Param → List ℕ → Option (List ℕ)
-byName ps n = valueIn (first (λ (p : Param). same (p .name) n) ps)
+-- the value of entry n
+unfoldable pub valueAt : QueryParams → ℕ → Option (List ℕ)
+valueAt None n = none
+valueAt (Named ps) n = valueIn (nth? ps n)
+valueAt (Indexed vs) n = nth? vs n
 
-unfoldable pub byIndex : List (List ℕ) → Index → Option (List ℕ)
-byIndex ps (index.At n) = nth? ps (n .0)
-byIndex ps index.Refused = none
+unfoldable pub valueFrom : QueryParams → Option ℕ → Option (List ℕ)
+valueFrom ps none = none
+valueFrom ps (some n) = valueAt ps n
 
--- the entry that fits a key, i being the counter; a number has the name ""
+-- the value of the entry that fits a key
 unfoldable pub entry : QueryParams → Key → ℕ → Option (List ℕ)
-entry None k i = none
-entry (Named ps) absent i = none
-entry (Named ps) (named n) i = byName ps n
-entry (Named ps) (zeroIndexed n) i = byName ps []
-entry (Named ps) (oneIndexed n) i = byName ps []
-entry (Indexed ps) absent i = nth? ps i
-entry (Indexed ps) (named []) i = nth? ps i
-entry (Indexed ps) (named (c ∷ n)) i = none
-entry (Indexed ps) (zeroIndexed n) i = byIndex ps (index.At n)
-entry (Indexed ps) (oneIndexed n) i = byIndex ps (fromOne n)
+entry ps k i = valueFrom ps (source ps k i)
 
 -- what is shown: the entry that fits, or the token's own value v
 unfoldable pub get : QueryParams → Key → ℕ → List ℕ → List ℕ

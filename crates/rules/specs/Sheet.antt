@@ -22,8 +22,8 @@ use Rattle.rules.specs.Tokens.{Key, absent, named, zeroIndexed, oneIndex
 use Rattle.rules.specs.Words.{wordAt, placeAt, tokenAt, paramsAt, keepsAt, bodyAt}
 
 -- the bytes of a place, base being the offset of the first body byte
-unfoldable pub part : List ℕ → ℕ → Place → List ℕ
-part s base p = take (p .len) (drop (base + p .start) s)
+unfoldable pub bodyPart : List ℕ → ℕ → Place → List ℕ
+bodyPart s base p = take (p .len) (drop (base + p .start) s)
 
 -- f at k numbers from i on
 unfoldable pub listOf {ℓ} : {A : Type ℓ} → (ℕ → A) → ℕ → ℕ → List A
@@ -60,13 +60,13 @@ optionsOf s =
 
 unfoldable pub keyRead : List ℕ → ℕ → PlaceholderKind → Key
 keyRead s base key.Absent = absent
-keyRead s base (key.Named p) = named (part s base p)
+keyRead s base (key.Named p) = named (bodyPart s base p)
 keyRead s base (key.Zero n) = zeroIndexed n
 keyRead s base (key.One n) = oneIndexed n
 
 -- a declared token, read
 abbrev pub tokenRead : List ℕ → ℕ → declared.Token → Token
-tokenRead s base t = record { kind = t .kind; value = part s base (t .value); key = keyRead s base (t .key); create = t .create }
+tokenRead s base t = record { kind = t .kind; value = bodyPart s base (t .value); key = keyRead s base (t .key); create = t .create }
 
 abbrev pub tokenOf : List ℕ → ℕ → ℕ → Token
 tokenOf s base i = tokenRead s base (tokenAt s i)
@@ -97,10 +97,10 @@ pub data QueryParams : Type 0 where
 
 -- parameter i: its name, and what it shows
 unfoldable pub nameOf : List ℕ → Counts → ℕ → List ℕ
-nameOf s c i = part s (bodyAt c) (placeAt s (paramsAt c + 16 * i))
+nameOf s c i = bodyPart s (bodyAt c) (placeAt s (paramsAt c + 16 * i))
 
 unfoldable pub valueOf : List ℕ → Counts → ℕ → List ℕ
-valueOf s c i = part s (bodyAt c) (placeAt s (paramsAt c + 16 * i + 8))
+valueOf s c i = bodyPart s (bodyAt c) (placeAt s (paramsAt c + 16 * i + 8))
 
 abbrev pub paramOf : List ℕ → Counts → ℕ → Param
 paramOf s c i = record { name = nameOf s c i; value = valueOf s c i }
@@ -112,7 +112,7 @@ paramsOf s c =
     else Named (listOf (paramOf s c) 0 (c .params))
 
 unfoldable pub keepOf : List ℕ → Counts → ℕ → List ℕ
-keepOf s c i = part s (bodyAt c) (placeAt s (keepsAt c + 8 * i))
+keepOf s c i = bodyPart s (bodyAt c) (placeAt s (keepsAt c + 8 * i))
 
 unfoldable pub keepsOf : List ℕ → Counts → List (List ℕ)
 keepsOf s c = listOf (keepOf s c) 0 (c .keeps)

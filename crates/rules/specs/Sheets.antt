@@ -11,7 +11,7 @@ use Rattle.rules.specs.Tokens.{absent, named, Token}
 use Rattle.rules.specs.Sheet.{QueryParams, None, Indexed, Named}
 use Rattle.rules.specs.Encode.{encode}
 use Rattle.rules.specs.Answer.{Answer, laid, refusal}
-use Rattle.rules.specs.Computed.{Row, given, wanted, computed}
+use Rattle.rules.specs.Computed.{Sample, given, wanted, computed}
 
 -- ---- short names
 
@@ -46,10 +46,10 @@ ample = 65536
 abbrev pub text : String → ℕ → ℕ → Answer
 text v l w = laid (bytes v) l w
 
-abbrev pub sheet : List ℕ → QueryParams → List (List ℕ) → List Token → ℕ → Answer → Row
+abbrev pub sheet : List ℕ → QueryParams → List (List ℕ) → List Token → ℕ → Answer → Sample
 sheet op ps keep ts room a = record { sheet = encode op ps keep ts; room = room; wanted = a }
 
-abbrev pub plain : List ℕ → List Token → ℕ → Answer → Row
+abbrev pub plain : List ℕ → List Token → ℕ → Answer → Sample
 plain op ts room a = sheet op None [] ts room a
 
 -- ---- the sheets
@@ -75,7 +75,7 @@ lines34 = Named (record { name = bytes "line"; value = bytes "3" } ∷ record { 
 abbrev pub isNull : List Token
 isNull = tok kind.Reserved "is  null" ∷ []
 
-abbrev pub starred : List Row
+abbrev pub starred : List Sample
 starred =
     plain default [] ample (text "" 0 0)
     ∷ plain default (W "a" ∷ []) ample (text "a" 1 1)

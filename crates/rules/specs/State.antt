@@ -18,7 +18,7 @@ pub record State : Type 0 where
   pub index : ℕ
 
 unfoldable pub start : State
-start = record { text = fits 0 []; indentation = noIndentation; inlineBlock = []; blockLevel = 0; index = 0 }
+start = record { text = fits 0 0 []; indentation = noIndentation; inlineBlock = []; blockLevel = 0; index = 0 }
 
 unfoldable pub onText : (Text → Text) → State → State
 onText f s = record { text = f (s .text); indentation = s .indentation; inlineBlock = s .inlineBlock; blockLevel = s .blockLevel; index = s .index }

@@ -1,7 +1,7 @@
 -- Rules on bytes: white bytes, cutting, casing, joining blanks, comments; the working text, which a refusal replaces; lines and width.
 use mathlib.Core.Bool.{Bool, true, false, _&&_, _||_}
 use mathlib.Core.List.{List, [], _∷_, _++_, map}
-use Prim.Native.Nat.{ℕ, suc, _+_, _-_, _*_, max}
+use Prim.Native.Nat.{ℕ, suc, _+_, _-_, _*_, min, max}
 use lib.Dec.{eqb, leb}
 use lib.ListN.{length, take, drop, replicate}
 use Rattle.rules.specs.declared.Case.{Case}
@@ -111,35 +111,39 @@ widthFrom at best (x ∷ xs) = widthFrom (if eqb x 10 then 0 else suc at) (if eq
 abbrev pub width : List ℕ → ℕ
 width v = widthFrom 0 0 v
 
--- ---- the working text: bytes, until an offence takes their place; no cut goes below the floor
+-- ---- the working text: bytes, until an offence takes their place; no cut goes below the floor; low is the least length since the text was marked
 
 pub data Text : Type 0 where
-  fits : (floor : ℕ) → List ℕ → Text
+  fits : (floor low : ℕ) → List ℕ → Text
   refused : ℕ → Text
 
 -- other bytes, of which none is held
 abbrev pub change : (List ℕ → List ℕ) → Text → Text
-change f (fits k b) = fits 0 (f b)
+change f (fits k m b) = fits 0 0 (f b)
 change f (refused n) = refused n
 
 -- v is appended in a buffer of `room` bytes
 abbrev pub append : ℕ → List ℕ → Text → Text
-append room v (fits k b) = if leb (length b + length v) room then fits k (b ++ v) else refused 9
+append room v (fits k m b) = if leb (length b + length v) room then fits k m (b ++ v) else refused 9
 append room v (refused n) = refused n
 
 -- a line feed, unless there is one
 abbrev pub lineFeed : ℕ → Text → Text
-lineFeed room (fits k b) = if eqb (lastOr 0 b) 10 then fits k b else append room (10 ∷ []) (fits k b)
+lineFeed room (fits k m b) = if eqb (lastOr 0 b) 10 then fits k m b else append room (10 ∷ []) (fits k m b)
 lineFeed room (refused n) = refused n
 
 -- the first offence stays
 abbrev pub refuse : ℕ → Text → Text
-refuse n (fits k b) = refused n
+refuse n (fits k m b) = refused n
 refuse n (refused m) = refused m
+
+-- the text is cut to b
+abbrev pub lowered : ℕ → ℕ → List ℕ → Text
+lowered k m b = fits k (min m (length b)) b
 
 -- the bytes of p go from the end, down to the floor
 abbrev pub cut : (ℕ → Bool) → Text → Text
-cut p (fits k b) = fits k (take k b ++ trimEnd p (drop k b))
+cut p (fits k m b) = lowered k m (take k b ++ trimEnd p (drop k b))
 cut p (refused n) = refused n
 
 abbrev pub cutBlanks : Text → Text
@@ -150,8 +154,21 @@ cutWhite w = cut isWhite w
 
 -- all that stands there is held: the floor is its length
 abbrev pub hold : Text → Text
-hold (fits k b) = fits (length b) b
+hold (fits k m b) = fits (length b) m b
 hold (refused n) = refused n
+
+-- from here on low is the least length that the text is cut to
+abbrev pub mark : Text → Text
+mark (fits k m b) = fits k (length b) b
+mark (refused n) = refused n
+
+abbrev pub lowOf : Text → ℕ
+lowOf (fits k m b) = m
+lowOf (refused n) = 0
+
+abbrev pub bytesIn : Text → List ℕ
+bytesIn (fits k m b) = b
+bytesIn (refused n) = []
 
 abbrev pub isOn : Inline → Bool
 isOn inline.Off = false

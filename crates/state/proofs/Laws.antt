@@ -8,7 +8,7 @@ use lib.ListN.{length}
 use Rattle.rules.specs.Text.{Text}
 use Rattle.rules.specs.Tokens.{Here}
 use Rattle.rules.specs.Sheet.{Env}
-use Rattle.rules.specs.Sheet.{part}
+use Rattle.rules.specs.Sheet.{bodyPart}
 use Rattle.rules.specs.Indentation.{Indentation, indentLevel}
 use Rattle.ascii.specs.Part.{part as bytes}
 use Rattle.query.specs.declared.Value.{Value}
@@ -66,7 +66,7 @@ value-inside s x i v known here e =
     rw e (omega arith)
 
 pub value-is : (s : List ℕ) (x : Context) (i : ℕ) (v : Value) → v ≡ valueIn s x i → bytes s (v .start) (v .len) ≡ wordOf s (x .base) i
-unfolding part
+unfolding bodyPart
 value-is s x i v e = rw e
 
 -- a handler that changes the text alone, and reads the token's value

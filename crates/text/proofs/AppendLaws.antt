@@ -24,12 +24,12 @@ cleared d d′ e =
     let g : length d ≤ 0 + length y = omega arith in
     e ∙ rw (drop-of-length-le d g) (append-nil _)
 
-held-cleared : (d d′ : List ℕ) (f : ℕ) → d′ ≡ replicate (length d) 0 → Held (record { len = 0; floor = 0; fault = f }) d′
+held-cleared : (d d′ : List ℕ) (f : ℕ) → d′ ≡ replicate (length d) 0 → Held (record { len = 0; floor = 0; low = 0; fault = f }) d′
 held-cleared d d′ f e =
     let m : length d′ ≡ length d = ap length e ∙ length-replicate (length d) 0 in
-    record { within = omega arith; floored = omega arith; zeros = e ∙ rw (m, sub-zero); empty = λ q. refl }
+    record { within = omega arith; floored = omega arith; lowest = omega arith; zeros = e ∙ rw (m, sub-zero); empty = λ q. refl }
 
-pub by-begin : (d d′ : List ℕ) → d′ ≡ put d 0 (replicate (length d) 0) → Laid (length d) (fits 0 []) (record { len = 0; floor = 0; fault = 0 }) d′
+pub by-begin : (d d′ : List ℕ) → d′ ≡ put d 0 (replicate (length d) 0) → Laid (length d) (fits 0 0 []) (record { len = 0; floor = 0; low = 0; fault = 0 }) d′
 by-begin d d′ e =
     let f = cleared d d′ e in
     laid _ _ _ d′ (ap length f ∙ length-replicate (length d) 0) (held-cleared d d′ 0 f) (text-fits _ d′ refl)
@@ -40,16 +40,16 @@ recoded e p = rw (← e) p
 module _ (t : Code) (d : List ℕ) (h : Held t d) where
   -- ---- a refused text is handed on
 
-  pub kept-refused : (n : ℕ) → (t .fault ≡ 0 → ⊥) → Laid (length d) (refuse n (textOf t d)) (record { len = 0; floor = 0; fault = t .fault }) d
+  pub kept-refused : (n : ℕ) → (t .fault ≡ 0 → ⊥) → Laid (length d) (refuse n (textOf t d)) (record { len = 0; floor = 0; low = 0; fault = t .fault }) d
   kept-refused n z = recoded (only-fault t d h z) (laid _ _ t d refl h (rw (text-refused t d z)))
 
-  pub kept-append : (p : List ℕ) → (t .fault ≡ 0 → ⊥) → Laid (length d) (append (length d) p (textOf t d)) (record { len = 0; floor = 0; fault = t .fault }) d
+  pub kept-append : (p : List ℕ) → (t .fault ≡ 0 → ⊥) → Laid (length d) (append (length d) p (textOf t d)) (record { len = 0; floor = 0; low = 0; fault = t .fault }) d
   kept-append p z = recoded (only-fault t d h z) (laid _ _ t d refl h (rw (text-refused t d z)))
 
   -- ---- a refusal
 
   pub by-refuse : (n : ℕ) (d′ : List ℕ) → t .fault ≡ 0 → 0 < n → d′ ≡ put d 0 (replicate (length d) 0)
-      → Laid (length d) (refuse n (textOf t d)) (record { len = 0; floor = 0; fault = n }) d′
+      → Laid (length d) (refuse n (textOf t d)) (record { len = 0; floor = 0; low = 0; fault = n }) d′
   by-refuse n d′ z k e =
       let f = cleared d d′ e in
       laid _ _ _ d′ (ap length f ∙ length-replicate (length d) 0) (held-cleared d d′ n f)
@@ -65,7 +65,7 @@ module _ (t : Code) (d : List ℕ) (h : Held t d) where
       relaid refl (rw (text-fits t d z, lt-leb _ _ o)) q
 
   by-put : (p d′ : List ℕ) → t .fault ≡ 0 → t .len + length p ≤ length d → d′ ≡ put d (t .len) p
-      → Laid (length d) (append (length d) p (textOf t d)) (record { len = t .len + length p; floor = t .floor; fault = 0 }) d′
+      → Laid (length d) (append (length d) p (textOf t d)) (record { len = t .len + length p; floor = t .floor; low = t .low; fault = 0 }) d′
   by-put p d′ z k e =
       let n : ℕ = t .len + length p in
       let w : t .len ≤ length d = h .within in
@@ -77,6 +77,7 @@ module _ (t : Code) (d : List ℕ) (h : Held t d) where
       (record {
         within = omega arith;
         floored = let g = h .floored in omega arith;
+        lowest = let g = h .lowest in omega arith;
         zeros =
             rw (e, drop-put d (t .len) p w, length-put d (t .len) p k, ← a, ← drop-drop (length p) (t .len) d, h .zeros)
             (drop-replicate (length p) (length d - t .len) 0);
@@ -86,11 +87,11 @@ module _ (t : Code) (d : List ℕ) (h : Held t d) where
 
   -- p of n bytes was written behind the text
   pub by-put-of : (p d′ : List ℕ) (n : ℕ) → length p ≡ n → t .fault ≡ 0 → n ≤ length d - t .len → d′ ≡ put d (t .len) p
-      → Laid (length d) (append (length d) p (textOf t d)) (record { len = t .len + n; floor = t .floor; fault = 0 }) d′
+      → Laid (length d) (append (length d) p (textOf t d)) (record { len = t .len + n; floor = t .floor; low = t .low; fault = 0 }) d′
   by-put-of p d′ n e z k f = let w = h .within in rw (← e) (by-put p d′ z (omega arith) f)
 
   pub by-byte : (b : ℕ) → t .fault ≡ 0 → 1 ≤ length d - t .len
-      → Laid (length d) (append (length d) (b ∷ []) (textOf t d)) (record { len = t .len + 1; floor = t .floor; fault = 0 }) (set d (t .len) b)
+      → Laid (length d) (append (length d) (b ∷ []) (textOf t d)) (record { len = t .len + 1; floor = t .floor; low = t .low; fault = 0 }) (set d (t .len) b)
   by-byte b z k =
       let w = h .within in
       let s = put-snoc d (t .len) [] b (omega arith) in

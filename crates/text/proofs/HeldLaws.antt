@@ -10,9 +10,9 @@ use lib.Dec.{leb, eqb}
 use lib.ListN.{length, take, drop, replicate, length-append, take-append-drop}
 use lib.Seq.{length-take-le}
 use borrow.Author.Tests.{le-leb, lt-leb, leb-true, leb-false, eq-eqb, ne-eqb, eqb-true, eqb-false}
-use Rattle.rules.specs.Text.{Text, fits, refused, append}
+use Rattle.rules.specs.Text.{Text, fits, refused, append, mark}
 use Rattle.text.specs.declared.Text.{Text as Code}
-use Rattle.text.specs.Held.{textOf, Held, codeOf, bytesOf, Laid}
+use Rattle.text.specs.Held.{textOf, Held, codeOf, bytesOf, Laid, marked}
 
 zero-or-by : (n : ℕ) (b : Bool) → eqb n 0 ≡ b → (n ≡ 0) ⊎ (n ≡ 0 → ⊥)
 zero-or-by n true h = inl (eqb-true n 0 h)
@@ -29,7 +29,7 @@ pub le-or : (a b : ℕ) → (a ≤ b) ⊎ (b < a)
 le-or a b = le-or-by a b (leb a b) refl
 
 module _ (t : Code) (d : List ℕ) where
-  pub text-fits : t .fault ≡ 0 → textOf t d ≡ fits (t .floor) (take (t .len) d)
+  pub text-fits : t .fault ≡ 0 → textOf t d ≡ fits (t .floor) (t .low) (take (t .len) d)
   unfolding textOf
   text-fits h = simp (eq-eqb _ _ h)
 
@@ -39,29 +39,28 @@ module _ (t : Code) (d : List ℕ) where
 
 -- ---- exactness
 
-code-same : (t u : Code) → t .len ≡ u .len → t .floor ≡ u .floor → t .fault ≡ u .fault → t ≡ u
-code-same t u e g f = ap (λ (n : ℕ). mk n (t .floor) (t .fault)) e ∙ ap (λ (n : ℕ). mk (u .len) n (t .fault)) g ∙ ap (λ (n : ℕ). mk (u .len) (u .floor) n) f
+code-same : (t u : Code) → t .len ≡ u .len → t .floor ≡ u .floor → t .low ≡ u .low → t .fault ≡ u .fault → t ≡ u
+code-same t u e g l f =
+    ap (λ (n : ℕ). mk n (t .floor) (t .low) (t .fault)) e ∙ ap (λ (n : ℕ). mk (u .len) n (t .low) (t .fault)) g
+    ∙ ap (λ (n : ℕ). mk (u .len) (u .floor) n (t .fault)) l ∙ ap (λ (n : ℕ). mk (u .len) (u .floor) (u .low) n) f
   where
-    mk : ℕ → ℕ → ℕ → Code
-    mk n m k = record { len = n; floor = m; fault = k }
+    mk : ℕ → ℕ → ℕ → ℕ → Code
+    mk n m l k = record { len = n; floor = m; low = l; fault = k }
 
--- the floor of an empty text is 0
-no-floor : (t : Code) (d : List ℕ) → Held t d → (t .fault ≡ 0 → ⊥) → t .floor ≡ 0
-no-floor t d h z =
-    let e = h .empty z in
-    let f = h .floored in
-    omega arith
+-- what lies within an empty text is 0
+no-more : (n : ℕ) (t : Code) (d : List ℕ) → Held t d → (t .fault ≡ 0 → ⊥) → n ≤ t .len → n ≡ 0
+no-more n t d h z l = let e = h .empty z in omega arith
 
 -- a refused text is its fault
-pub only-fault : (t : Code) (d : List ℕ) → Held t d → (t .fault ≡ 0 → ⊥) → t ≡ record { len = 0; floor = 0; fault = t .fault }
-only-fault t d h z = code-same t _ (h .empty z) (no-floor t d h z) refl
+pub only-fault : (t : Code) (d : List ℕ) → Held t d → (t .fault ≡ 0 → ⊥) → t ≡ record { len = 0; floor = 0; low = 0; fault = t .fault }
+only-fault t d h z = code-same t _ (h .empty z) (no-more _ t d h z (h .floored)) (no-more _ t d h z (h .lowest)) refl
 
 exact-code : (t : Code) (d : List ℕ) → Held t d → t ≡ codeOf (textOf t d)
 unfolding codeOf
 exact-code t d h =
     ⊎-elim
-    (λ (z : t .fault ≡ 0). rw (text-fits t d z) (code-same t _ (sym (length-take-le (t .len) d (h .within))) refl z))
-    (λ (z : t .fault ≡ 0 → ⊥). rw (text-refused t d z) (code-same t _ (h .empty z) (no-floor t d h z) refl))
+    (λ (z : t .fault ≡ 0). rw (text-fits t d z) (code-same t _ (sym (length-take-le (t .len) d (h .within))) refl refl z))
+    (λ (z : t .fault ≡ 0 → ⊥). rw (text-refused t d z) (code-same t _ (h .empty z) (no-more _ t d h z (h .floored)) (no-more _ t d h z (h .lowest)) refl))
     (zero-or (t .fault))
 
 exact-bytes : (t : Code) (d : List ℕ) → Held t d → d ≡ bytesOf (length d) (textOf t d)
@@ -86,6 +85,19 @@ laid cap w t d l h e =
       text = e;
     }
 
+-- ---- a mark
+
+module _ (t : Code) (d : List ℕ) (h : Held t d) where
+  pub held-marked : Held (marked t) d
+  held-marked = record { within = h .within; floored = h .floored; lowest = omega arith; zeros = h .zeros; empty = h .empty }
+
+  pub text-marked : textOf (marked t) d ≡ mark (textOf t d)
+  text-marked =
+      ⊎-elim
+      (λ (z : t .fault ≡ 0). rw (text-fits (marked t) d z, text-fits t d z, length-take-le (t .len) d (h .within)))
+      (λ (z : t .fault ≡ 0 → ⊥). rw (text-refused (marked t) d z, text-refused t d z))
+      (zero-or (t .fault))
+
 -- nothing is done
 pub laid-same : (t : Code) (d : List ℕ) → Held t d → Laid (length d) (textOf t d) t d
 laid-same t d h = laid (length d) (textOf t d) t d refl h refl
@@ -108,7 +120,7 @@ onward g p q = laid-then g p (p .room) q
 
 pub append-append : (room : ℕ) (v w : List ℕ) (t : Text) → append room v (append room w t) ≡ append room (w ++ v) t
 append-append room v w (refused n) = refl
-append-append room v w (fits floor b) =
+append-append room v w (fits floor low b) =
     let l : length (w ++ v) ≡ length w + length v = length-append w v in
     let m : length (b ++ w) ≡ length b + length w = length-append b w in
     ⊎-elim

@@ -34,7 +34,7 @@ by-empty d n z = rw z
 -- ---- a line feed
 
 module _ (t : Code) (d : List ℕ) (b : Bool) (e : b ≡ eqb (lastOr 0 (take (t .len) d)) 10) where
-  pub by-fed : Held t d → b ≡ true → Laid (length d) (lineFeed (length d) (textOf t d)) (record { len = t .len; floor = t .floor; fault = t .fault }) d
+  pub by-fed : Held t d → b ≡ true → Laid (length d) (lineFeed (length d) (textOf t d)) (record { len = t .len; floor = t .floor; low = t .low; fault = t .fault }) d
   by-fed h k =
       laid _ _ t d refl h
       (⊎-elim
@@ -73,9 +73,9 @@ pub by-hold : {cap : ℕ} (w : Text) {t u : Code} {d : List ℕ} → Laid cap w 
 by-hold {cap} w {t} {u} {d} p e =
     let h = p .held in
     rw e
-    (laid cap (hold w) (heldWhole t) d (p .room) (record { within = h .within; floored = omega arith; zeros = h .zeros; empty = h .empty })
+    (laid cap (hold w) (heldWhole t) d (p .room) (record { within = h .within; floored = omega arith; lowest = h .lowest; zeros = h .zeros; empty = h .empty })
     (⊎-elim
-    (λ (q : t .fault ≡ 0). text-fits (heldWhole t) d q ∙ ap (λ (n : ℕ). fits n (take (t .len) d)) (sym (length-take-le (t .len) d (h .within))) ∙ ap hold (sym (text-fits t d q) ∙ p .text))
+    (λ (q : t .fault ≡ 0). text-fits (heldWhole t) d q ∙ ap (λ (n : ℕ). fits n (t .low) (take (t .len) d)) (sym (length-take-le (t .len) d (h .within))) ∙ ap hold (sym (text-fits t d q) ∙ p .text))
     (λ (q : t .fault ≡ 0 → ⊥). text-refused (heldWhole t) d q ∙ ap hold (sym (text-refused t d q) ∙ p .text))
     (zero-or (t .fault))))
 

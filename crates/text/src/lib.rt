@@ -1,4 +1,5 @@
-// The working text: a lent buffer that holds the text and then zeros, its length, and the floor, below which no cut goes; or, after a refusal, zeros alone and the
+// The working text: a lent buffer that holds the text and then zeros, its length, the floor, below which no cut goes, and low, the least length
+// since the text was marked; or, after a refusal, zeros alone and the
 // refusal's number.
 // A refused text is handed on by every function here, so callers go straight on and look at the fault once.
 // A text is handed on field by field: as a whole it would be copied through memory.
@@ -14,11 +15,12 @@ ghost use lib.Dec.{eqb};
 ghost use Rattle.rules.specs.Text.{lastOr, indentOf, append, lineFeed, fits, refuse as refusedWith, cut, cutBlanks, cutWhite, hold as holding, isOn, newLine, closingLine};
 ghost use Rattle.ascii.specs.Part.{part};
 ghost use Rattle.text.specs.Put.{put};
-ghost use Rattle.text.specs.Held.{textOf, Held, Laid, cutBytes, heldWhole};
+ghost use Rattle.text.specs.Held.{textOf, Held, Laid, cutTo, cutBytes, heldWhole, marked};
 
 pub struct Text {
     pub len: usize,
     pub floor: usize,
+    pub low: usize,
     pub fault: u32,
 }
 
@@ -59,13 +61,14 @@ fn ends_line(text: &[u8], len: usize) -> bool
 // ---- begin, refuse, append
 
 pub fn begin(text: &mut [u8]) -> Text
-    ensures { λ r. ⌜ Laid (length (now (text .entry))) (fits 0 []) r (now (text .exit)) ⌝ }
+    ensures { λ r. ⌜ Laid (length (now (text .entry))) (fits 0 0 []) r (now (text .exit)) ⌝ }
 {
     let cap = text.len();
     fill(text, 0, 0, cap);
     Text {
         len: 0,
         floor: 0,
+        low: 0,
         fault: 0,
     }
 }
@@ -80,6 +83,7 @@ pub fn refuse(text: &mut [u8], t: Text, n: u32) -> Text
         return Text {
             len: 0,
             floor: 0,
+            low: 0,
             fault,
         };
     }
@@ -88,6 +92,7 @@ pub fn refuse(text: &mut [u8], t: Text, n: u32) -> Text
     Text {
         len: 0,
         floor: 0,
+        low: 0,
         fault: n,
     }
 }
@@ -101,6 +106,7 @@ pub fn append_byte(text: &mut [u8], t: Text, b: u8) -> Text
         return Text {
             len: 0,
             floor: 0,
+            low: 0,
             fault,
         };
     }
@@ -112,6 +118,7 @@ pub fn append_byte(text: &mut [u8], t: Text, b: u8) -> Text
     Text {
         len: len + 1,
         floor: t.floor,
+        low: t.low,
         fault: 0,
     }
 }
@@ -125,6 +132,7 @@ pub fn append_repeat(text: &mut [u8], t: Text, b: u8, count: usize) -> Text
         return Text {
             len: 0,
             floor: 0,
+            low: 0,
             fault,
         };
     }
@@ -136,6 +144,7 @@ pub fn append_repeat(text: &mut [u8], t: Text, b: u8, count: usize) -> Text
     Text {
         len: len + count,
         floor: t.floor,
+        low: t.low,
         fault: 0,
     }
 }
@@ -150,6 +159,7 @@ pub fn append_part(text: &mut [u8], t: Text, src: &[u8], start: usize, n: usize)
         return Text {
             len: 0,
             floor: 0,
+            low: 0,
             fault,
         };
     }
@@ -161,6 +171,7 @@ pub fn append_part(text: &mut [u8], t: Text, src: &[u8], start: usize, n: usize)
     Text {
         len: len + n,
         floor: t.floor,
+        low: t.low,
         fault: 0,
     }
 }
@@ -193,6 +204,26 @@ fn is_cut(white: bool, b: u8) -> bool
     is_blank(b)
 }
 
+// A text that was cut to len bytes.
+fn lowered(len: usize, floor: usize, low: usize, fault: u32) -> Text
+    ensures { λ r. ⌜ r ≡ cutTo len floor low fault ⌝ }
+{
+    if low < len {
+        return Text {
+            len,
+            floor,
+            low,
+            fault,
+        };
+    }
+    Text {
+        len,
+        floor,
+        low: len,
+        fault,
+    }
+}
+
 // A cut is short, so it goes a byte at a time and zeroes as it goes.
 fn trim_end(text: &mut [u8], t: Text, white: bool) -> Text
     requires { ⌜ Held t (now text) ⌝ }
@@ -200,16 +231,17 @@ fn trim_end(text: &mut [u8], t: Text, white: bool) -> Text
 {
     let fault = t.fault;
     let floor = t.floor;
+    let low = t.low;
     let mut len = t.len;
     while floor < len {
         let last = len - 1;
         if !is_cut(white, text[last]) {
-            return Text { len, floor, fault };
+            return lowered(len, floor, low, fault);
         }
         text[last] = 0;
         len = last;
     }
-    Text { len, floor, fault }
+    lowered(len, floor, low, fault)
 }
 
 pub fn trim_spaces_end(text: &mut [u8], t: Text) -> Text
@@ -237,6 +269,7 @@ pub fn line_feed(text: &mut [u8], t: Text) -> Text
         return Text {
             len,
             floor: t.floor,
+            low: t.low,
             fault: t.fault,
         };
     }
@@ -251,6 +284,18 @@ pub fn one_blank(text: &mut [u8], t: Text) -> Text
     append_byte(text, cut, 32)
 }
 
+// From here on low is the least length that the text is cut to.
+pub fn mark(t: Text) -> Text
+    ensures { λ r. ⌜ r ≡ marked t ⌝ }
+{
+    Text {
+        len: t.len,
+        floor: t.floor,
+        low: t.len,
+        fault: t.fault,
+    }
+}
+
 // No cut goes below what stands there.
 fn hold(t: Text) -> Text
     ensures { λ r. ⌜ r ≡ heldWhole t ⌝ }
@@ -258,6 +303,7 @@ fn hold(t: Text) -> Text
     Text {
         len: t.len,
         floor: t.len,
+        low: t.low,
         fault: t.fault,
     }
 }

@@ -1,8 +1,11 @@
--- The layout call by what the checks found. Assumes nothing.
-use mathlib.Core.Path.{_≡_, refl, _∙_}
+-- The layout calls by what the checks found. Assumes nothing.
+use mathlib.Core.Path.{_≡_, refl, sym, subst, ap, _∙_}
+use mathlib.Core.Bool.{Bool, true, false, _&&_}
 use mathlib.Core.List.{List, append-nil}
-use Prim.Native.Nat.{ℕ, _+_, _≤_}
+use Prim.Native.Nat.{ℕ, _+_, _*_, _≤_, _<_}
 use native.Mathlib.Omega.{arith}
+use lib.Dec.{ltb}
+use borrow.Author.Tests.{ltb-false}
 use lib.ListN.{length, replicate, drop-of-length-le, length-replicate}
 use Rattle.rules.specs.declared.Checked.{Checked}
 use Rattle.rules.specs.declared.Report.{Report}
@@ -11,6 +14,11 @@ use Rattle.rules.specs.declared.Counts.{Counts}
 use Rattle.rules.specs.Sheet.{envOf, tokensOf}
 use Rattle.rules.specs.Checks.{checked}
 use Rattle.rules.specs.Answer.{Answer, refusal, answerAs, answer, format, reportOf, bufferOf, reported, bufferAfter}
+use Rattle.rules.specs.Base.{if_then_else_}
+use Rattle.rules.specs.Rows.{rows, placeholders, isShort, listedAs, listed, listFor, listAs, listedReport, listedBuffer, listAfter}
+use Rattle.records.specs.Sheeted.{Sheeted}
+use Rattle.switched.specs.Count.{few-placeholders}
+use Rattle.twigmantle.specs.Called.{calledAs, listCalled}
 use Rattle.text.specs.Put.{put}
 
 -- a buffer that is filled with zero is that of a refusal
@@ -22,38 +30,84 @@ by-cleared d q number place e =
     let g : length d ≤ 0 + length zeros = omega arith in
     e ∙ rw (drop-of-length-le d g) (append-nil _)
 
--- the answer of each finding
-module _ (s : List ℕ) (room : ℕ) where
-  pub sound-is : (c : Counts) → answerAs s room (found.Sound c) ≡ format (envOf s c room) (tokensOf s c)
-  unfolding answerAs
-  sound-is c = refl
+-- one or the other, where they are one
+either : {A : Type 0} {a : A} (g : Bool) → (if g then a else a) ≡ a
+either true = refl
+either false = refl
 
-  pub size-is : answerAs s room found.Size ≡ refusal 1 0
-  unfolding answerAs
-  size-is = refl
+-- report, buffer and list of a call whose checks found c
+abbrev pub Told : List ℕ → ℕ → Bool → ℕ → Checked → Report → List ℕ → List ℕ → Type 0
+Told s room b k c r out list = (r ≡ reportOf (calledAs s room b k c)) × ((out ≡ bufferOf room (calledAs s room b k c)) × (list ≡ listCalled s room b k c))
 
-  pub word-is : (p : ℕ) → answerAs s room (found.Word p) ≡ refusal 2 p
-  unfolding answerAs
-  word-is p = refl
+pub by-found : (s : List ℕ) (room : ℕ) (b : Bool) (k : ℕ) (f c : Checked) (r : Report) (out list : List ℕ) → f ≡ checked s → f ≡ c → Told s room b k c r out list → Told s room b k (checked s) r out list
+by-found s room b k f c r out list e g h = subst (λ (z : Checked). Told s room b k z r out list) (sym g ∙ e) h
 
-  pub place-is : (p : ℕ) → answerAs s room (found.Place p) ≡ refusal 3 p
-  unfolding answerAs
-  place-is p = refl
+-- ---- refusals 1 to 4
 
-  pub byte-is : (p : ℕ) → answerAs s room (found.Byte p) ≡ refusal 4 p
-  unfolding answerAs
-  byte-is p = refl
+module _ (s : List ℕ) (room : ℕ) (b : Bool) (k : ℕ) (r : Report) (out list : List ℕ) (zero : list ≡ replicate k 0) where
+  module _ (n p : ℕ) (told : r ≡ reportOf (refusal n p)) (left : out ≡ bufferOf room (refusal n p)) where
+    by-refusal : (c : Checked) → calledAs s room b k c ≡ refusal n p → listCalled s room b k c ≡ replicate k 0 → Told s room b k c r out list
+    by-refusal c e f = (rw e told, (rw e left, rw f zero))
 
--- the report and the buffer of what was found: k, which is c, whose answer is a
-module _ (s : List ℕ) (room : ℕ) (k c : Checked) (a : Answer) (e : k ≡ checked s) (f : k ≡ c) (is : answerAs s room c ≡ a) where
-  answer-is : answer s room ≡ a
-  unfolding answer
-  answer-is = rw (← e, f) is
+  pub by-size : r ≡ reportOf (refusal 1 0) → out ≡ bufferOf room (refusal 1 0) → Told s room b k found.Size r out list
+  unfolding calledAs listCalled listedAs answerAs listAs isShort
+  by-size e f = by-refusal 1 0 e f found.Size (either b) (either b)
 
-  pub by-report : (r : Report) → r ≡ reportOf a → r ≡ reported s room
-  unfolding reported
-  by-report r h = rw answer-is h
+  pub by-word : (p : ℕ) → r ≡ reportOf (refusal 2 p) → out ≡ bufferOf room (refusal 2 p) → Told s room b k (found.Word p) r out list
+  unfolding calledAs listCalled listedAs answerAs listAs isShort
+  by-word p e f = by-refusal 2 p e f (found.Word p) (either b) (either b)
 
-  pub by-buffer : (q : List ℕ) → q ≡ bufferOf room a → q ≡ bufferAfter s room
-  unfolding bufferAfter
-  by-buffer q h = rw answer-is h
+  pub by-place : (p : ℕ) → r ≡ reportOf (refusal 3 p) → out ≡ bufferOf room (refusal 3 p) → Told s room b k (found.Place p) r out list
+  unfolding calledAs listCalled listedAs answerAs listAs isShort
+  by-place p e f = by-refusal 3 p e f (found.Place p) (either b) (either b)
+
+  pub by-byte : (p : ℕ) → r ≡ reportOf (refusal 4 p) → out ≡ bufferOf room (refusal 4 p) → Told s room b k (found.Byte p) r out list
+  unfolding calledAs listCalled listedAs answerAs listAs isShort
+  by-byte p e f = by-refusal 4 p e f (found.Byte p) (either b) (either b)
+
+-- ---- a sound sheet
+
+module _ (s : List ℕ) (k : ℕ) (c : Counts) where
+  pub five-fit : Sheeted s c → (n : ℕ) → n ≡ placeholders (tokensOf s c) → 5 * n < 18446744073709551616
+  five-fit h n e = let f = few-placeholders s c in let t = h .few .tokens in omega arith
+
+  pub by-asked : (b : Bool) (n : ℕ) → b ≡ true → n ≡ placeholders (tokensOf s c) → ltb k (5 * n) ≡ (b && isShort s k (found.Sound c))
+  unfolding isShort
+  by-asked b n t e = rw (t, e)
+
+  pub by-unasked : (b : Bool) → b ≡ false → false ≡ (b && isShort s k (found.Sound c))
+  by-unasked b f = rw f
+
+  -- the list has room for the rows that are asked for
+  pub enough : (b g : Bool) → g ≡ (b && isShort s k (found.Sound c)) → g ≡ false → b ≡ true → 5 * placeholders (tokensOf s c) ≤ k
+  unfolding isShort
+  enough b g e f t = ltb-false k (5 * placeholders (tokensOf s c)) (rw t at (sym e ∙ f))
+
+  module _ (room : ℕ) (b g : Bool) (e : g ≡ (b && isShort s k (found.Sound c))) (r : Report) (out list : List ℕ) where
+    pub by-short : g ≡ true → r ≡ reportOf (refusal 10 0) → out ≡ bufferOf room (refusal 10 0) → list ≡ replicate k 0 → Told s room b k (found.Sound c) r out list
+    unfolding calledAs listCalled listedAs listAs listFor
+    by-short t told left zero = go b (sym e ∙ t)
+      where
+        go : (h : Bool) → (h && isShort s k (found.Sound c)) ≡ true → Told s room h k (found.Sound c) r out list
+        go true z = (rw z told, (rw z left, rw z zero))
+        go false z = absurd (let o : _≡_ {A = ℕ} 0 1 = cc in omega arith)
+
+    pub by-laid : g ≡ false → r ≡ reportOf (format (envOf s c room) (tokensOf s c)) → out ≡ bufferOf room (format (envOf s c room) (tokensOf s c))
+        → list ≡ (if b then listFor k (rows (envOf s c room) (tokensOf s c)) (format (envOf s c room) (tokensOf s c)) else replicate k 0) → Told s room b k (found.Sound c) r out list
+    unfolding calledAs listCalled listedAs listAs answerAs
+    by-laid f told left kept = go b (sym e ∙ f) kept
+      where
+        go : (h : Bool) → (h && isShort s k (found.Sound c)) ≡ false → list ≡ (if h then listFor k (rows (envOf s c room) (tokensOf s c)) (format (envOf s c room) (tokensOf s c)) else replicate k 0) → Told s room h k (found.Sound c) r out list
+        go true z q = (rw z told, (rw z left, rw z q))
+        go false z q = (told, (left, q))
+
+-- ---- the exported calls
+
+module _ (s : List ℕ) (room k : ℕ) (r : Report) (out list : List ℕ) where
+  pub first-told : Told s room false k (checked s) r out list → (r ≡ reported s room) × (out ≡ bufferAfter s room)
+  unfolding calledAs reported bufferAfter answer
+  first-told h = (h .0, h .1 .0)
+
+  pub second-told : Told s room true k (checked s) r out list → (r ≡ listedReport s room k) × ((out ≡ listedBuffer s room k) × (list ≡ listAfter s room k))
+  unfolding calledAs listCalled listedReport listedBuffer listAfter listed
+  second-told h = h

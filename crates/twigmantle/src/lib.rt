@@ -1,22 +1,33 @@
-// What the desk's host calls: any bytes, any buffer.
+// What the desk's host calls: any bytes, any buffer, any list.
 ghost use mathlib.Core.Path.{_≡_};
-ghost use lib.ListN.{length};
+ghost use mathlib.Core.Bool.{true, _&&_};
+ghost use Prim.Native.Nat.{_*_, _≤_};
+ghost use lib.ListN.{length, replicate};
+ghost use Rattle.rules.specs.declared.Checked.the-variants as found;
+ghost use Rattle.rules.specs.Base.{if_then_else_};
+ghost use Rattle.rules.specs.Checks.{checked};
 ghost use Rattle.rules.specs.Sheet.{envOf, tokensOf};
 ghost use Rattle.rules.specs.Answer.{refusal, format, reportOf, bufferOf, reported, bufferAfter};
+ghost use Rattle.rules.specs.Rows.{rows as rowsOf, placeholders as placeholdersOf, isShort, listFor, listedReport, listedBuffer, listAfter};
 ghost use Rattle.rules.specs.Due.{Faithful};
+ghost use Rattle.rules.specs.Shown.{Pointed};
 ghost use Rattle.records.specs.Sheeted.{Sheeted};
 ghost use Rattle.head.specs.Head.{headWritten, headReturned};
+ghost use Rattle.twigmantle.specs.Called.{calledAs, listCalled};
 use rules::Checked;
 use rules::Counts;
 use rules::Report;
 use state::Context;
+use switched::placeholders;
 
-fn refused(text: &mut [u8], number: u32, place: usize) -> Report
+fn refused(text: &mut [u8], rows: &mut [u32], number: u32, place: usize) -> Report
     ensures { λ r. ⌜ r ≡ reportOf (refusal number place) ⌝ }
     ensures { λ r. ⌜ now (text .exit) ≡ bufferOf (length (now (text .entry))) (refusal number place) ⌝ }
+    ensures { λ r. ⌜ now (rows .exit) ≡ replicate (length (now (rows .entry))) 0 ⌝ }
 {
     let room = text.len();
     text::fill(text, 0, 0, room);
+    rows::clear(rows);
     Report {
         refusal: number,
         place: place as u64,
@@ -27,10 +38,12 @@ fn refused(text: &mut [u8], number: u32, place: usize) -> Report
 }
 
 // A sheet that checks 1 to 4 found sound.
-fn laid_out(sheet: &[u8], text: &mut [u8], c: Counts) -> Report
+fn laid_out(sheet: &[u8], text: &mut [u8], rows: &mut [u32], with_rows: bool, c: Counts) -> Report
     requires { ⌜ Sheeted (now sheet) c ⌝ }
+    requires { ⌜ («with_rows» ≡ true → 5 * placeholdersOf (tokensOf (now sheet) c) ≤ length (now rows)) ⌝ }
     ensures { λ r. ⌜ r ≡ reportOf (format (envOf (now (sheet .entry)) c (length (now (text .entry)))) (tokensOf (now (sheet .entry)) c)) ⌝ }
     ensures { λ r. ⌜ now (text .exit) ≡ bufferOf (length (now (text .entry))) (format (envOf (now (sheet .entry)) c (length (now (text .entry)))) (tokensOf (now (sheet .entry)) c)) ⌝ }
+    ensures { λ r. ⌜ now (rows .exit) ≡ (if «with_rows» then listFor (length (now (rows .entry))) (rowsOf (envOf (now (sheet .entry)) c (length (now (text .entry)))) (tokensOf (now (sheet .entry)) c)) (format (envOf (now (sheet .entry)) c (length (now (text .entry)))) (tokensOf (now (sheet .entry)) c)) else replicate (length (now (rows .entry))) 0) ⌝ }
 {
     let base = records::body_at(c);
     let options = records::options_of(sheet);
@@ -39,7 +52,47 @@ fn laid_out(sheet: &[u8], text: &mut [u8], c: Counts) -> Report
         base,
         options,
     };
-    formatter::format(text, sheet, x)
+    formatter::format(text, rows, with_rows, sheet, x)
+}
+
+// Whether rows are asked for, and the list has too few words.
+fn is_short(sheet: &[u8], words: usize, with_rows: bool, c: Counts) -> bool
+    requires { ⌜ Sheeted (now sheet) c ⌝ }
+    ensures { λ r. ⌜ r ≡ («with_rows» && isShort (now (sheet .entry)) words (found.Sound c)) ⌝ }
+{
+    if with_rows {
+        return words < 5 * placeholders(sheet, c);
+    }
+    false
+}
+
+fn sound(sheet: &[u8], text: &mut [u8], rows: &mut [u32], with_rows: bool, c: Counts) -> Report
+    requires { ⌜ Sheeted (now sheet) c ⌝ }
+    ensures { λ r. ⌜ r ≡ reportOf (calledAs (now (sheet .entry)) (length (now (text .entry))) «with_rows» (length (now (rows .entry))) (found.Sound c)) ⌝ }
+    ensures { λ r. ⌜ now (text .exit) ≡ bufferOf (length (now (text .entry))) (calledAs (now (sheet .entry)) (length (now (text .entry))) «with_rows» (length (now (rows .entry))) (found.Sound c)) ⌝ }
+    ensures { λ r. ⌜ now (rows .exit) ≡ listCalled (now (sheet .entry)) (length (now (text .entry))) «with_rows» (length (now (rows .entry))) (found.Sound c) ⌝ }
+{
+    let words = rows.len();
+    if is_short(sheet, words, with_rows, c) {
+        return refused(text, rows, 10, 0);
+    }
+    laid_out(sheet, text, rows, with_rows, c)
+}
+
+// One way for every layout call: without rows the list is scratch.
+fn called(sheet: &[u8], text: &mut [u8], rows: &mut [u32], with_rows: bool) -> Report
+    ensures { λ r. ⌜ r ≡ reportOf (calledAs (now (sheet .entry)) (length (now (text .entry))) «with_rows» (length (now (rows .entry))) (checked (now (sheet .entry)))) ⌝ }
+    ensures { λ r. ⌜ now (text .exit) ≡ bufferOf (length (now (text .entry))) (calledAs (now (sheet .entry)) (length (now (text .entry))) «with_rows» (length (now (rows .entry))) (checked (now (sheet .entry)))) ⌝ }
+    ensures { λ r. ⌜ now (rows .exit) ≡ listCalled (now (sheet .entry)) (length (now (text .entry))) «with_rows» (length (now (rows .entry))) (checked (now (sheet .entry))) ⌝ }
+{
+    let found = checks::check(sheet);
+    match found {
+        Checked::Sound(c) => sound(sheet, text, rows, with_rows, c),
+        Checked::Size => refused(text, rows, 1, 0),
+        Checked::Word(p) => refused(text, rows, 2, p),
+        Checked::Place(p) => refused(text, rows, 3, p),
+        Checked::Byte(p) => refused(text, rows, 4, p),
+    }
 }
 
 // The layout call: the answer in numbers, and in the buffer the text and zero after it, or zero alone; a text that is laid out is faithful (demand 3).
@@ -49,14 +102,20 @@ pub extern "C" fn twigmantle_layout(sheet: &[u8], text: &mut [u8]) -> Report
     ensures { λ r. ⌜ now (text .exit) ≡ bufferAfter (now (sheet .entry)) (length (now (text .entry))) ⌝ }
     ensures { λ r. ⌜ Faithful (now (sheet .entry)) r (now (text .exit)) ⌝ }
 {
-    let found = checks::check(sheet);
-    match found {
-        Checked::Sound(c) => laid_out(sheet, text, c),
-        Checked::Size => refused(text, 1, 0),
-        Checked::Word(p) => refused(text, 2, p),
-        Checked::Place(p) => refused(text, 3, p),
-        Checked::Byte(p) => refused(text, 4, p),
-    }
+    let mut none: [u32; 1] = [0; 1];
+    called(sheet, text, &mut none, false)
+}
+
+// The layout call with a list: five words for each placeholder that was laid out, and zero after them, or zero alone.
+#[no_mangle]
+pub extern "C" fn twigmantle_layout_rows(sheet: &[u8], text: &mut [u8], rows: &mut [u32]) -> Report
+    ensures { λ r. ⌜ r ≡ listedReport (now (sheet .entry)) (length (now (text .entry))) (length (now (rows .entry))) ⌝ }
+    ensures { λ r. ⌜ now (text .exit) ≡ listedBuffer (now (sheet .entry)) (length (now (text .entry))) (length (now (rows .entry))) ⌝ }
+    ensures { λ r. ⌜ now (rows .exit) ≡ listAfter (now (sheet .entry)) (length (now (text .entry))) (length (now (rows .entry))) ⌝ }
+    ensures { λ r. ⌜ Faithful (now (sheet .entry)) r (now (text .exit)) ⌝ }
+    ensures { λ r. ⌜ Pointed (now (sheet .entry)) r (now (text .exit)) (now (rows .exit)) ⌝ }
+{
+    called(sheet, text, rows, true)
 }
 
 // The default head: 48 bytes and zero after them; zero alone in a slice under 48.

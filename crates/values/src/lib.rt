@@ -7,12 +7,15 @@ ghost use Rattle.indentation.specs.Of.{wordIn, spanIn, indentationOf, Clean};
 ghost use Rattle.state.specs.Of.{Known, Ready, Handled, withText};
 ghost use Rattle.state.specs.Below.{WordBelow, Below};
 ghost use Rattle.values.specs.Comma.{limitIn, breaksIn};
-ghost use Rattle.values.specs.On.{onValue, onToken, placed, withIndex, separates};
+ghost use Rattle.rules.specs.Rows.{entryWord};
+ghost use Rattle.params.specs.Found.{numberIn, Below as Under};
+ghost use Rattle.values.specs.On.{onValue, onToken, placed, withIndex, separates, RowIn};
 use ahead::or_zero;
 use around::is_byte;
 use indentation::Indentation;
 use indentation::TopLevel;
 use indentation::Word;
+use params::Entry;
 use query::Value;
 use rules::Place;
 use state::Context;
@@ -21,6 +24,14 @@ use state::value_of;
 use text::Text;
 use tokens::to_usize;
 use tokens::token_at;
+
+// What a placeholder leaves.
+pub struct Filled {
+    pub text: Text,
+    pub index: u32,
+    pub entry: u32,
+    pub len: u32,
+}
 
 pub fn format_no_change(query: &mut [u8], s: State, sheet: &[u8], x: Context, i: usize) -> Text
     requires { ⌜ Ready (now sheet) x i s (now query) ⌝ }
@@ -153,17 +164,22 @@ fn value_in(base: usize, p: Place) -> Value
     }
 }
 
-fn with_index(mut s: State, t: Text, index: u32) -> State
-    ensures { λ r. ⌜ r ≡ withIndex s t index ⌝ }
+// An entry's number, in its word of a row.
+fn entry_word(e: Entry) -> u32
+    requires { ⌜ Under 4294967295 e ⌝ }
+    ensures { λ r. ⌜ r ≡ entryWord (numberIn e) ⌝ }
 {
-    s.text = t;
-    s.index = index;
-    s
+    match e {
+        Entry::At(n) => n as u32,
+        Entry::Nothing => 4294967295,
+    }
 }
 
-pub fn format_placeholder(query: &mut [u8], s: State, sheet: &[u8], x: Context, i: usize) -> State
+// The text and the counter after it; the entry's word and the length of what is shown are for its row.
+pub fn format_placeholder(query: &mut [u8], s: State, sheet: &[u8], x: Context, i: usize) -> Filled
     requires { ⌜ Ready (now sheet) x i s (now query) ⌝ }
-    ensures { λ r. ⌜ Handled (now (sheet .entry)) x i (onToken formatPlaceholder) s (now (query .entry)) r (now (query .exit)) ⌝ }
+    ensures { λ r. ⌜ Handled (now (sheet .entry)) x i (onToken formatPlaceholder) s (now (query .entry)) (withIndex s (r .text) (r .index)) (now (query .exit)) ⌝ }
+    ensures { λ r. ⌜ RowIn (now (sheet .entry)) x i s (now (query .entry)) (r .entry) (r .len) ⌝ }
 {
     let token = token_at(sheet, i);
     let c = x.counts;
@@ -171,9 +187,16 @@ pub fn format_placeholder(query: &mut [u8], s: State, sheet: &[u8], x: Context, 
     let p = shown.place;
     let v = value_in(x.base, p);
     let five = params::offends(sheet, token);
+    let found = shown.entry;
+    let entry = entry_word(found);
     let t = s.text;
-    let u = query::format_placeholder(query, t, sheet, v, five);
-    with_index(s, u, shown.index)
+    let text = query::format_placeholder(query, t, sheet, v, five);
+    Filled {
+        text,
+        index: shown.index,
+        entry,
+        len: p.len,
+    }
 }
 
 // ---- by the value

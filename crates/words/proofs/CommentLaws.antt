@@ -39,7 +39,7 @@ module _ (s : List ℕ) (start n i : ℕ) (h : start + n ≤ length s) (e : i + 
 
 -- ---- what stands in their place
 
-pub by-no-lead : (t : Code) (d ind : List ℕ) (lead : ℕ) → Held t d → lead ≡ 0 → Laid (length d) (append (length d) (leadOf lead ind) (textOf t d)) (record { len = t .len; floor = t .floor; fault = t .fault }) d
+pub by-no-lead : (t : Code) (d ind : List ℕ) (lead : ℕ) → Held t d → lead ≡ 0 → Laid (length d) (append (length d) (leadOf lead ind) (textOf t d)) (record { len = t .len; floor = t .floor; low = t .low; fault = t .fault }) d
 unfolding leadOf
 by-no-lead t d ind lead h z = laid _ _ t d refl h (rw z (sym (append-none t d h)))
 

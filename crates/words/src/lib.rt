@@ -43,6 +43,7 @@ pub fn append_cased(text: &mut [u8], t: Text, src: &[u8], start: usize, n: usize
         return Text {
             len: 0,
             floor: 0,
+            low: 0,
             fault,
         };
     }
@@ -54,6 +55,7 @@ pub fn append_cased(text: &mut [u8], t: Text, src: &[u8], start: usize, n: usize
     Text {
         len: len + n,
         floor: t.floor,
+        low: t.low,
         fault: 0,
     }
 }
@@ -127,6 +129,7 @@ fn append_lead(text: &mut [u8], t: Text, lead: usize, indent: Indent, level: usi
         return Text {
             len: t.len,
             floor: t.floor,
+            low: t.low,
             fault: t.fault,
         };
     }

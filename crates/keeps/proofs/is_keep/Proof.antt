@@ -3,13 +3,13 @@ use mathlib.Core.Path.{_≡_}
 use borrow.Author.Needs.{needs}
 use Rattle.rules.specs.Base.{same, anyOf}
 use Rattle.rules.specs.Words.{bodyAt}
-use Rattle.rules.specs.Sheet.{part, keepsOf}
+use Rattle.rules.specs.Sheet.{bodyPart, keepsOf}
 use Rattle.keeps.proofs.Laws.{keptFrom, all-left, keep-record, keep-inside, read-keep, by-end, by-kept, by-other}
 use Rattle.keeps.proofs.is_keep.Statement.{statement}
 use Rattle.keeps.proofs.is_keep.Tie as tie
 
 abbrev Inv-loop : tie.InvT-loop
-Inv-loop sheet c p base k i₀ i = (i ≤ c .keeps) × (keptFrom sheet c (part sheet (bodyAt c) p) i ≡ anyOf (same (part sheet (bodyAt c) p)) (keepsOf sheet c))
+Inv-loop sheet c p base k i₀ i = (i ≤ c .keeps) × (keptFrom sheet c (bodyPart sheet (bodyAt c) p) i ≡ anyOf (same (bodyPart sheet (bodyAt c) p)) (keepsOf sheet c))
 
 abbrev μ-loop : tie.MeasureT-loop
 μ-loop sheet c p base k i₀ i = c .keeps - i

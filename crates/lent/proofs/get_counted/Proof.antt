@@ -1,7 +1,7 @@
--- `lent::get_counted` meets its contract: a walk of its MIR, by hand. A counter is made in a local and lent to `get_next` for a new lifetime; that lifetime is ended, the counter is taken back at its last number, and the place and the number are the result.
+-- `lent::get_counted` meets its contract: a walk of its MIR, by hand. A counter is made in a local and lent to `get_next` for a new lifetime; that lifetime is ended, the counter is taken back at its last number, and the place, the entry and the number are the result.
 -- All that the proof knows of `get_next` is that it meets its contract.
 -- Assumes nothing.
-use mathlib.Core.Path.{_≡_, refl, ap, subst}
+use mathlib.Core.Path.{_≡_, refl, ap}
 use Prim.Native.Nat.{ℕ, _<_, _^_}
 use native.Mathlib.Omega.{arith}
 use mathlib.Core.List.{[], _∷_, List}
@@ -45,20 +45,22 @@ use denote.Triple.Walked.{says, needs, Stays, stay-dropped, walkOf, AllGo, goes-
 use denote.Exit.{yes}
 use Rattle.rules.specs.declared.Counts.{Counts}
 use Rattle.rules.specs.declared.Token.{Token}
-use Rattle.rules.specs.declared.Place.{Place}
 use Rattle.rules.specs.Words.{bodyAt}
 use Rattle.rules.proofs.Counts as C
 use Rattle.rules.proofs.Counts.Laws as C′
 use Rattle.rules.proofs.Token as K
 use Rattle.rules.proofs.Token.Laws as K′
-use Rattle.rules.proofs.Place as P
-use Rattle.rules.proofs.Place.Laws as P′
 use Rattle.records.specs.Sheeted.{Sheeted}
+use Rattle.params.specs.declared.Found.{Found}
 use Rattle.params.specs.declared.Shown.{Shown}
-use Rattle.params.specs.Entries.{KeyIn, shownOf}
+use Rattle.params.specs.Entries.{KeyIn, foundOf as foundIn, shownOf}
+use Rattle.params.specs.Shows.{found-shown}
+use Rattle.params.proofs.Found as F
+use Rattle.params.proofs.Found.Laws as F′
 use Rattle.params.proofs.Shown as S
 use Rattle.params.proofs.Shown.Laws as S′
 use Rattle.lent.specs.declared.Counter.{Counter}
+use Rattle.lent.proofs.FoundLaws.{val, shownVal, withIndex, shown-is}
 use Rattle.lent.proofs.CounterLaws.{h, mach, made, put, back}
 use Rattle.lent.proofs.Counter as T
 use Rattle.lent.proofs.Counter.Laws as T′
@@ -128,24 +130,14 @@ module _ {M : Type 1} (𝓤 : URA M) (H : Heap 𝓤) (A : Atoms 𝓤) (W : Given
         nothing ! $ move ! (2 ∷ 0 ∷ []) $ join ! $ move ! (1 ∷ 0 ∷ []) $ join ! $ frame ! $ done !
 
     -- what the callee's clause says of its answer and of the counter's last value
-    abbrev Told : Place → Lasts next.ended (κ, (α ∷ [], tt)) sent → Type 0
-    Told r ws = (r ≡ found .place) × (ws .1 .1 .1 .0 .at ≡ found .index)
+    abbrev Told : Found → Lasts next.ended (κ, (α ∷ [], tt)) sent → Type 0
+    Told r ws = (r ≡ foundIn (s .now) c t n) × (ws .1 .1 .1 .0 .at ≡ found .index)
 
-  -- the result
-  abbrev both : Place → ℕ → Shown
-  both r m = record { place = r; index = m }
-
-  is-at : (r : Place) (w : Val) → Is P.the-row r (w ∷ []) → Is P.the-row r (P′.lowered r ∷ [])
-  is-at r w is = subst (Is P.the-row r) (LL.tells P.the-type P′.the-laws r _ is) is
-
-  both-is : (r : Place) (m : ℕ) → Is P.the-row r (P′.lowered r ∷ []) → m < 2 ^ 32 → Is S.the-row (both r m) (S′.lowered (both r m) ∷ [])
-  both-is r m is fits = LL.owes S.the-type S′.the-laws (both r m) (is, ((refl, fits), tt))
-
-  exits : (r : Place) (m : ℕ) → both r m ≡ found → Is S.the-row (both r m) (S′.lowered (both r m) ∷ []) → ent 𝓤 (⋆ 𝓤 H A (‵ (flft κ q) ∷ [])) (Post (S′.lowered (both r m)))
+  exits : (r : Found) (m : ℕ) → withIndex r m ≡ found → Is S.the-row (withIndex r m) (shownVal (withIndex r m) ∷ []) → ent 𝓤 (⋆ 𝓤 H A (‵ (flft κ q) ∷ [])) (Post (shownVal (withIndex r m)))
   exits r m e is =
-      qed W (‵ (flft κ q) ∷ []) ∵ suffices ! _ (ends-at 𝓤 H A this.ended stayed (this.clauses 𝓤 H A at-mem run) W (((κ, tt), (q, tt), tt, a, vals), tt) (S′.lowered (both r m)) (both r m) (tt, (tt, (tt, (tt, tt)))) (tt, (tt, (tt, (tt, tt))))) $ says ! e $
+      qed W (‵ (flft κ q) ∷ []) ∵ suffices ! _ (ends-at 𝓤 H A this.ended stayed (this.clauses 𝓤 H A at-mem run) W (((κ, tt), (q, tt), tt, a, vals), tt) (shownVal (withIndex r m)) (withIndex r m) (tt, (tt, (tt, (tt, tt)))) (tt, (tt, (tt, (tt, tt))))) $ says ! e $
       nothing ! $ move ! (1 ∷ 0 ∷ []) $ join ! $ frame ! $ nothing ! $ nothing ! $ fjoin ! $ nothing ! $ fjoin ! $ nothing ! $ fjoin ! $ nothing ! $ fjoin ! $
-      owned ! S.the-row (Is S.the-row) (LL.makes S.the-type S′.the-plain 𝓤 H A) (both r m) _ is $ move ! (1 ∷ 0 ∷ []) $ done !
+      owned ! S.the-row (Is S.the-row) (LL.makes S.the-type S′.the-plain 𝓤 H A) (withIndex r m) _ is $ move ! (1 ∷ 0 ∷ []) $ done !
 
   module _ (𝓒 : Calls 𝓤 H) (Λ : Loops 𝓤 H) (fm : FmC 𝓤 H (W .laws) 𝓒) (known : Triple 𝓤 (𝓒 #lent·get-next) (Next 𝓤 H A at-mem run)) where
     walk : Is (ShrSlice (named 0) κ u8) s (vs ∷ []) → Is C.the-row c (vc ∷ []) → Is K.the-row t (vt ∷ []) → Asked → ent 𝓤 (onEntry 𝓤 H A this.signature (κ, tt) (q, tt) a vals) (WpFn 𝓤 H 𝓒 Λ code.function (vs ∷ vc ∷ vt ∷ vint w32 n ∷ []) Post)
@@ -172,25 +164,25 @@ module _ {M : Type 1} (𝓤 : URA M) (H : Heap 𝓤) (A : Atoms 𝓤) (W : Given
         move ! (20 ∷ []) $ split ! $ move ! (0 ∷ 4 ∷ 2 ∷ []) $ use3 W (raw (Next 𝓤 H A at-mem run .pre (to α l₅ δ))) (goes α l₅ δ asked) $
         -- [what the callee asks; true; the lender's part; _8; …]
         calls-at ! fm (Next 𝓤 H A at-mem run) known (to α l₅ δ) (and-then ! (load ! (from ! (stop !)) (look ! 16 refl)) (and-then ! (load ! (from ! (stop !)) (look ! 14 refl)) (and-then ! (load ! (from ! (stop !)) (look ! 12 refl)) (and-then ! (load ! (from ! (stop !)) (look ! 5 refl)) (no-more !))))) (λ w.
-        use1 W (later (some (λ (r : Place). ((‵ (flft κ q) ⊛ ‵ (flft (α ∷ []) fullShare) ⊛ ‵ ftrue) ⊛ ‵ (P.the-row .own r (w ∷ []))) ⊛ raw (ensured 𝓤 H A next.ended (next.clauses 𝓤 H A at-mem run) (κ, (α ∷ [], tt)) (sent α l₅ δ) tt r)))) (id⊢ 𝓤 _) $ await ! tt $ pick ! (λ r.
+        use1 W (later (some (λ (r : Found). ((‵ (flft κ q) ⊛ ‵ (flft (α ∷ []) fullShare) ⊛ ‵ ftrue) ⊛ ‵ (F.the-row .own r (w ∷ []))) ⊛ raw (ensured 𝓤 H A next.ended (next.clauses 𝓤 H A at-mem run) (κ, (α ∷ [], tt)) (sent α l₅ δ) tt r)))) (id⊢ 𝓤 _) $ await ! tt $ pick ! (λ r.
         split ! $ move ! (1 ∷ []) $ use1 W (some (λ (ws : Lasts next.ended (κ, (α ∷ [], tt)) (sent α l₅ δ)). ‵ (lasts next.ended (κ, (α ∷ [], tt)) (sent α l₅ δ) ws) ⊛ raw (fact 𝓤 (Told α l₅ δ r ws)))) (id⊢ 𝓤 _) $ pick ! (λ ws.
         split ! $ move ! (1 ∷ []) $ heard ! (Told α l₅ δ r ws) (λ e.
         -- of the last values, the counter's alone
         fsplit ! $ drop ! $ fsplit ! $ drop ! $ fsplit ! $ drop ! $ fsplit ! $ move ! (2 ∷ []) $ split ! $ split ! $ move ! (1 ∷ []) $ split ! $ move ! (3 ∷ []) $
         -- [the answer; the new token; true; the sheet's token; the counter's last value; true; true; the lender's part; _8; …]
-        peeks ! P.the-row (Is P.the-row) (shows 𝓤 H A P.the-row) r (w ∷ []) (λ is.
-        land ! (from ! (stop !)) (init ! 12 refl (LL.lawful P.the-type P′.the-laws 𝓤 H A W .typed r _ is .0)) $
-        rewrite ! 12 (λ (u : Val). ‵ (fat fullShare P′.mir l₆ 0 u)) (ap only (LL.tells P.the-type P′.the-laws r _ is)) refl $ drop ! $
+        peeks ! F.the-row (Is F.the-row) (shows 𝓤 H A F.the-row) r (w ∷ []) (λ is.
+        land ! (from ! (stop !)) (init ! 12 refl (LL.lawful F.the-type F′.the-laws 𝓤 H A W .typed r _ is .0)) $
+        rewrite ! 12 (λ (u : Val). ‵ (fat fullShare F′.mir l₆ 0 u)) (ap only (LL.tells F.the-type F′.the-laws r _ is)) refl $ drop ! $
         -- the lifetime is ended, and the counter is taken back
         lft-end ! tt $ move ! (0 ∷ 6 ∷ 3 ∷ []) $ use3 W (later (‵ (partAt T.the-row fullShare (ws .1 .1 .1 .0) l₅ 0))) (ref-back 𝓤 H A W T.the-row (α ∷ []) δ (ws .1 .1 .1 .0) l₅ 0) $ await ! tt $
         use1 W (given (ws .1 .1 .1 .0 .at < 2 ^ 32) (‵ (fat fullShare T′.mir l₅ 0 (mach (ws .1 .1 .1 .0 .at))))) (back 𝓤 H A W (ws .1 .1 .1 .0 .at) l₅) $ learn ! (λ g.
-        let made-it : Is S.the-row (both r (ws .1 .1 .1 .0 .at)) (S′.lowered (both r (ws .1 .1 .1 .0 .at)) ∷ []) = both-is r (ws .1 .1 .1 .0 .at) (is-at r w is) g in
+        let made-it : Is S.the-row (withIndex r (ws .1 .1 .1 .0 .at)) (shownVal (withIndex r (ws .1 .1 .1 .0 .at)) ∷ []) = shown-is r w (ws .1 .1 .1 .0 .at) is g in
         -- [the counter; true; the sheet's token; true; true; _8; …]
         assigns ! (of-opd ! (load ! (from ! (fld ! refl (stop !))) (look-in ! 0 (sub ! 0 refl (whole !))))) (from ! (stop !)) (init ! 5 refl (tt, record { fits = g })) $
-        assigns ! (agg ! (and-then ! (load ! (from ! (stop !)) (look ! 9 refl)) (and-then ! (load ! (from ! (stop !)) (look ! 5 refl)) (no-more !)))) (from ! (stop !)) (init ! 20 refl (LL.lawful S.the-type S′.the-laws 𝓤 H A W .typed (both r (ws .1 .1 .1 .0 .at)) _ made-it .0)) $
+        assigns ! (agg ! (and-then ! (load ! (from ! (fld ! refl (stop !))) (look-in ! 9 (sub ! 0 refl (whole !)))) (and-then ! (load ! (from ! (fld ! refl (stop !))) (look-in ! 9 (sub ! 1 refl (whole !)))) (and-then ! (load ! (from ! (stop !)) (look ! 5 refl)) (no-more !))))) (from ! (stop !)) (init ! 20 refl (LL.lawful S.the-type S′.the-laws 𝓤 H A W .typed (withIndex r (ws .1 .1 .1 .0 .at)) _ made-it .0)) $
         returns ! (look ! 20 refl) $ forget ! 0 refl $ forget ! 5 refl $ forget ! 7 refl $ forget ! 9 refl $ forget ! 12 refl $ forget ! 14 refl $ forget ! 16 refl $ forget ! 18 refl $ forget ! 20 refl $
         move ! (20 ∷ 21 ∷ []) $ free1 ! $ move ! (18 ∷ 19 ∷ []) $ free1 ! $ move ! (16 ∷ 17 ∷ []) $ free1 ! $ move ! (14 ∷ 15 ∷ []) $ free1 ! $ move ! (12 ∷ 13 ∷ []) $ free1 ! $ move ! (0 ∷ 11 ∷ []) $ free1 ! $ move ! (8 ∷ 9 ∷ []) $ free1 ! $ move ! (6 ∷ 7 ∷ []) $ free1 ! $ move ! (4 ∷ 5 ∷ []) $ free1 ! $ free0 ! $
-        keep ! (1 ∷ []) $ by ! (exits r (ws .1 .1 .1 .0 .at) (λ i. record { place = e .0 i; index = e .1 i }) made-it))))))))))))))))))
+        keep ! (1 ∷ []) $ by ! (exits r (ws .1 .1 .1 .0 .at) (found-shown (s .now) c t n r (ws .1 .1 .1 .0 .at) (e .0) (e .1)) made-it))))))))))))))))))
 
 module _ {M : Type 1} (𝓤 : URA M) (H : Heap 𝓤) (A : Atoms 𝓤) (W : Given 𝓤 H A) (mem : Memory → SProp 𝓤) (run : Routine → Fun 𝓤) where
   this-walks : (𝓒 : Calls 𝓤 H) (Λ : Loops 𝓤 H) → FmC 𝓤 H (W .laws) 𝓒 → Triple 𝓤 (𝓒 #lent·get-next) (Next 𝓤 H A mem run) → Walks 𝓤 H A this.ended stayed (WpFn 𝓤 H 𝓒 Λ code.function) (this.clauses 𝓤 H A mem run)

@@ -1,4 +1,4 @@
--- `lent::get_next` meets its contract: a walk of its MIR, by hand. The borrow of the counter is opened and its number is read; the sheet, the counts, the token and the number go to `params::get`; the answer's number is stored behind the borrow, which is closed at it; and the answer's place is the result.
+-- `lent::get_next` meets its contract: a walk of its MIR, by hand. The borrow of the counter is opened and its number is read; the sheet, the counts, the token and the number go to `params::get`; the answer's number is stored behind the borrow, which is closed at it; and the answer's place and entry are the result.
 -- All that the proof knows of `params::get` is that it meets its contract.
 -- Assumes nothing.
 use mathlib.Core.Path.{_≡_, refl, ap}
@@ -20,7 +20,7 @@ use contract.Monad.{Fun, fact}
 use contract.Running.{givenOf, tables, tablesOf}
 use types.Kit.{Given, ‵, raw, some, later, _⊛_, ⋆, _$_, _∵_, !, qed, by, move, keep, drop, use1, use2, split, join, pick, rewrite, fsplit, fsplit3, fjoin, fjoin3, feqI, suffices, frame, await, done}
 use types.Run.{look, init, forget, stop, hop, fld, from, load, of-opd, and-then, no-more, assigns, land, returns, enter, alloc1, alloc0, params1, pass1, pass0, free1, free0}
-use types.Part.{whole, sub, look-in, store-in}
+use types.Part.{agg, whole, sub, look-in, store-in}
 use types.SemTy.{Body}
 use sound.WpLaws.{FmC, fmOf, WpFn-mono}
 use denote.RattleType.{owns}
@@ -49,10 +49,11 @@ use Rattle.rules.proofs.Counts as C
 use Rattle.rules.proofs.Counts.Laws as C′
 use Rattle.rules.proofs.Token as K
 use Rattle.rules.proofs.Token.Laws as K′
-use Rattle.rules.proofs.Place as P
-use Rattle.rules.proofs.Place.Laws as P′
 use Rattle.records.specs.Sheeted.{Sheeted}
 use Rattle.params.specs.declared.Shown.{Shown}
+use Rattle.params.specs.Shows.{shown-found}
+use Rattle.params.proofs.Found as F
+use Rattle.params.proofs.Found.Laws as F′
 use Rattle.params.specs.Entries.{KeyIn, shownOf}
 use Rattle.params.proofs.Shown as S
 use Rattle.params.proofs.Shown.Laws as S′
@@ -60,6 +61,7 @@ use Rattle.params.proofs.get as get
 use Rattle.params.proofs.get.Symbol as get-def
 use Rattle.params.proofs.get.Symbol.{name as #params·get}
 use Rattle.params.proofs.get.Met as get-thm
+use Rattle.lent.proofs.FoundLaws.{val, foundOf, index-fits, found-in}
 use Rattle.lent.proofs.CounterLaws.{h, mach, made}
 use Rattle.lent.proofs.Counter as T
 use Rattle.lent.proofs.Counter.Laws as T′
@@ -121,21 +123,14 @@ module _ {M : Type 1} (𝓤 : URA M) (H : Heap 𝓤) (A : Atoms 𝓤) (W : Given
   said : (r : Shown) → ent 𝓤 (ensured 𝓤 H A get.ended (get.clauses 𝓤 H A at-mem run) (κ, tt) (s, (c, (t, (n, tt)))) tt r) (fact 𝓤 (r ≡ found))
   said r = exE 𝓤 _ (λ ws. snd∗ 𝓤 (sem 𝓤 H A (lasts get.ended (κ, tt) (s, (c, (t, (n, tt)))) ws)) (fact 𝓤 (r ≡ found)))
 
-  -- what whoever holds the answer knows of its fields
-  index-fits : (r : Shown) (w : Val) → Is S.the-row r (w ∷ []) → r .index < 2 ^ 32
-  index-fits r w is = LL.owed S.the-type S′.the-laws r _ is .1 .0 .1
-
-  place-is : (r : Shown) (w : Val) → Is S.the-row r (w ∷ []) → Is P.the-row (r .place) (P′.lowered (r .place) ∷ [])
-  place-is r w is = LL.owed S.the-type S′.the-laws r _ is .0
-
-  exits : (r : Shown) → r ≡ found → Is P.the-row (r .place) (P′.lowered (r .place) ∷ []) → ent 𝓤 (⋆ 𝓤 H A (‵ (fobs γ (T.the-row .coded .code (h (r .index)))) ∷ ‵ (fbor κ′ (Body (mem T.the-row) b o γ)) ∷ ‵ (flft κ′ q′) ∷ ‵ (flft κ q) ∷ [])) (Post (P′.lowered (r .place)))
+  exits : (r : Shown) → r ≡ found → Is F.the-row (foundOf r) (val (foundOf r) ∷ []) → ent 𝓤 (⋆ 𝓤 H A (‵ (fobs γ (T.the-row .coded .code (h (r .index)))) ∷ ‵ (fbor κ′ (Body (mem T.the-row) b o γ)) ∷ ‵ (flft κ′ q′) ∷ ‵ (flft κ q) ∷ [])) (Post (val (foundOf r)))
   exits r e is =
       qed W (‵ (fobs γ (T.the-row .coded .code (h (r .index)))) ∷ ‵ (fbor κ′ (Body (mem T.the-row) b o γ)) ∷ ‵ (flft κ′ q′) ∷ ‵ (flft κ q) ∷ []) ∵
-      suffices ! _ (ends-at 𝓤 H A next.ended stayed (next.clauses 𝓤 H A at-mem run) W (((κ, (κ′, tt)), (q, (q′, tt)), tt, a, vals), tt) (P′.lowered (r .place)) (r .place) (tt, (tt, (tt, (h (r .index), tt)))) (tt, (tt, (tt, (tt, tt))))) $
-      says ! ((λ i. e i .place), (λ i. e i .index)) $
+      suffices ! _ (ends-at 𝓤 H A next.ended stayed (next.clauses 𝓤 H A at-mem run) W (((κ, (κ′, tt)), (q, (q′, tt)), tt, a, vals), tt) (val (foundOf r)) (foundOf r) (tt, (tt, (tt, (h (r .index), tt)))) (tt, (tt, (tt, (tt, tt))))) $
+      says ! (shown-found (s .now) c t n r e, (λ i. e i .index)) $
       nothing ! $ move ! (3 ∷ 0 ∷ []) $ join ! $ move ! (3 ∷ 0 ∷ []) $ join ! $ frame ! $ feqI ! (List Val) (vptr b o ∷ []) (vptr b o ∷ []) refl $ fjoin3 ! $
       nothing ! $ move ! (1 ∷ 0 ∷ []) $ fjoin ! $ nothing ! $ fjoin ! $ nothing ! $ fjoin ! $ nothing ! $ fjoin ! $
-      owned ! P.the-row (Is P.the-row) (LL.makes P.the-type P′.the-plain 𝓤 H A) (r .place) _ is $ move ! (1 ∷ 0 ∷ []) $ done !
+      owned ! F.the-row (Is F.the-row) (LL.makes F.the-type F′.the-plain 𝓤 H A) (foundOf r) _ is $ move ! (1 ∷ 0 ∷ []) $ done !
 
   module _ (𝓒 : Calls 𝓤 H) (Λ : Loops 𝓤 H) (fm : FmC 𝓤 H (W .laws) 𝓒) (known : Triple 𝓤 (𝓒 #params·get) (Get 𝓤 H A at-mem run)) where
     walk : Is (ShrSlice (named 0) κ u8) s (vs ∷ []) → Is C.the-row c (vc ∷ []) → Is K.the-row t (vt ∷ []) → Asked → ent 𝓤 (onEntry 𝓤 H A next.signature (κ, (κ′, tt)) (q, (q′, tt)) a vals) (WpFn 𝓤 H 𝓒 Λ code.function (vs ∷ vc ∷ vt ∷ vptr b o ∷ []) Post)
@@ -165,14 +160,14 @@ module _ {M : Type 1} (𝓤 : URA M) (H : Heap 𝓤) (A : Atoms 𝓤) (W : Given
         peeks ! S.the-row (Is S.the-row) (shows 𝓤 H A S.the-row) r (w ∷ []) (λ is.
         land ! (from ! (stop !)) (init ! 9 refl (LL.lawful S.the-type S′.the-laws 𝓤 H A W .typed r _ is .0)) $
         rewrite ! 9 (λ (u : Val). ‵ (fat fullShare S′.mir l₆ 0 u)) (ap only (LL.tells S.the-type S′.the-laws r _ is)) refl $
-        assigns ! (of-opd ! (load ! (from ! (fld ! refl (stop !))) (look-in ! 9 (sub ! 1 refl (whole !))))) (from ! (hop ! (look ! 13 refl) (fld ! refl (stop !)))) (store-in ! 2 (sub ! 0 refl (whole !)) (tt, record { fits = index-fits r w is })) $
-        assigns ! (of-opd ! (load ! (from ! (fld ! refl (stop !))) (look-in ! 9 (sub ! 0 refl (whole !))))) (from ! (stop !)) (init ! 21 refl (LL.lawful P.the-type P′.the-laws 𝓤 H A W .typed (r .place) _ (place-is r w is) .0)) $
+        assigns ! (of-opd ! (load ! (from ! (fld ! refl (stop !))) (look-in ! 9 (sub ! 2 refl (whole !))))) (from ! (hop ! (look ! 13 refl) (fld ! refl (stop !)))) (store-in ! 2 (sub ! 0 refl (whole !)) (tt, record { fits = index-fits r w is })) $
+        assigns ! (agg ! (and-then ! (load ! (from ! (fld ! refl (stop !))) (look-in ! 9 (sub ! 0 refl (whole !)))) (and-then ! (load ! (from ! (fld ! refl (stop !))) (look-in ! 9 (sub ! 1 refl (whole !)))) (no-more !)))) (from ! (stop !)) (init ! 21 refl (LL.lawful F.the-type F′.the-laws 𝓤 H A W .typed (foundOf r) _ (found-in r w is) .0)) $
         -- the borrow is closed at the answer's number
         drop ! $ split ! $ move ! (1 ∷ []) $ drop ! $ move ! (2 ∷ []) $ drop ! $ owned ! T.the-row (Is T.the-row) (LL.makes T.the-type T′.the-plain 𝓤 H A) (h (r .index)) _ (made (r .index) (index-fits r w is)) $ move ! (2 ∷ 0 ∷ 3 ∷ 4 ∷ 5 ∷ []) $
         closes ! tt T.the-row (h (r .index)) (mach (r .index) ∷ []) b o $
         returns ! (look ! 18 refl) $ forget ! 6 refl $ forget ! 8 refl $ forget ! 10 refl $ forget ! 12 refl $ forget ! 14 refl $ forget ! 16 refl $ forget ! 18 refl $
         move ! (18 ∷ 19 ∷ []) $ free1 ! $ move ! (16 ∷ 17 ∷ []) $ free1 ! $ move ! (14 ∷ 15 ∷ []) $ free1 ! $ move ! (12 ∷ 13 ∷ []) $ free1 ! $ move ! (10 ∷ 11 ∷ []) $ free1 ! $ move ! (8 ∷ 9 ∷ []) $ free1 ! $ move ! (6 ∷ 7 ∷ []) $ free1 ! $ free0 ! $
-        keep ! (0 ∷ 1 ∷ 2 ∷ 3 ∷ []) $ by ! (exits r e (place-is r w is))))))))))))))
+        keep ! (0 ∷ 1 ∷ 2 ∷ 3 ∷ []) $ by ! (exits r e (found-in r w is))))))))))))))
 
 module _ {M : Type 1} (𝓤 : URA M) (H : Heap 𝓤) (A : Atoms 𝓤) (W : Given 𝓤 H A) (mem : Memory → SProp 𝓤) (run : Routine → Fun 𝓤) where
   next-walks : (𝓒 : Calls 𝓤 H) (Λ : Loops 𝓤 H) → FmC 𝓤 H (W .laws) 𝓒 → Triple 𝓤 (𝓒 #params·get) (Get 𝓤 H A mem run) → Walks 𝓤 H A next.ended stayed (WpFn 𝓤 H 𝓒 Λ code.function) (next.clauses 𝓤 H A mem run)

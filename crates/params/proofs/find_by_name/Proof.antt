@@ -2,14 +2,14 @@ use Prim.Native.Nat.{_-_, _≤_}
 use mathlib.Core.Path.{_≡_}
 use borrow.Author.Needs.{needs}
 use Rattle.rules.specs.Words.{bodyAt}
-use Rattle.rules.specs.Sheet.{part}
+use Rattle.rules.specs.Sheet.{bodyPart}
 use Rattle.params.specs.Entries.{entryNamed}
 use Rattle.params.proofs.EntryLaws.{param-record, name-inside, read-name, namedFrom, all-left, by-end, by-named, by-other}
 use Rattle.params.proofs.find_by_name.Statement.{statement}
 use Rattle.params.proofs.find_by_name.Tie as tie
 
 abbrev Inv-loop : tie.InvT-loop
-Inv-loop sheet c name base p i₀ i = (i ≤ c .params) × (namedFrom sheet c (part sheet (bodyAt c) name) i ≡ entryNamed sheet c (part sheet (bodyAt c) name))
+Inv-loop sheet c name base p i₀ i = (i ≤ c .params) × (namedFrom sheet c (bodyPart sheet (bodyAt c) name) i ≡ entryNamed sheet c (bodyPart sheet (bodyAt c) name))
 
 abbrev μ-loop : tie.MeasureT-loop
 μ-loop sheet c name base p i₀ i = c .params - i

@@ -3,8 +3,8 @@ use Rattle.params.proofs.ModeLaws.{shown-elsewhere, shown-next, shown-s
 use Rattle.params.proofs.get.Statement.{statement}
 use Rattle.params.proofs.get.Tie as tie
 
-place-shown-requires : tie.Need-place-shown-requires
-place-shown-requires c κs = search needs
+find-requires : tie.Need-find-requires
+find-requires c κs = search needs
 
 mode-requires : tie.Need-mode-requires
 mode-requires c κs = search needs
@@ -15,8 +15,8 @@ returns c = search (needs, shown-elsewhere)
 takes-next-requires : tie.Need-takes-next-requires
 takes-next-requires c κs = search needs
 
-add-t10 : tie.Need-add-t10
-add-t10 c = search needs
+add-t12 : tie.Need-add-t12
+add-t12 c = search needs
 
 returns-2 : tie.Need-returns-2
 returns-2 c = search (needs, shown-next)
@@ -27,11 +27,4 @@ returns-3 c = search (needs, shown-still)
 pub get-spec : {M : Type 1} → statement M
 get-spec =
     tie.close
-    (tie.spec
-    place-shown-requires
-    mode-requires
-    returns
-    takes-next-requires
-    add-t10
-    returns-2
-    returns-3)
+    (tie.spec find-requires mode-requires returns takes-next-requires add-t12 returns-2 returns-3)

@@ -1,5 +1,5 @@
 use denote.Ref.{now}
-use Rattle.values.proofs.Placeholder.{key-known, index-small, start-small, shown-within, by-placeholder}
+use Rattle.values.proofs.Placeholder.{key-known, index-small, start-small, shown-within, entry-few, by-row, by-placeholder}
 use borrow.Author.Needs.{needs}
 use Rattle.values.proofs.format_placeholder.Statement.{statement}
 use Rattle.values.proofs.format_placeholder.Tie as tie
@@ -19,8 +19,8 @@ offends-requires c κs = search needs
 format-placeholder-requires : tie.Need-format-placeholder-requires
 format-placeholder-requires c κs = search (needs, shown-within)
 
-with-index-requires : tie.Need-with-index-requires
-with-index-requires c κs = search needs
+entry-word-requires : tie.Need-entry-word-requires
+entry-word-requires c κs = search (needs, entry-few)
 
 same-length : tie.Need-same-length
 same-length c = search needs
@@ -28,8 +28,11 @@ same-length c = search needs
 returns : tie.Need-returns
 returns c =
     let start = c .before .before .before .before .before .before .before .before .before .before .before .before .before .before in
-    by-placeholder (now (start .args .sheet)) (start .args .x) (start .args .i) (start .args .s) _ (start .pre) _ (c .before .before .before .before .before .before .before .before .before .before .before .token-at .ensures) _ (c .before .before .before .before .before .before .before .before .before .get-counted .ensures) _ (c .before .before .before .before .before .before .before .value-in .ensures) _ _ _ _
-    (c .before .before .before .before .before .before .offends .ensures) (c .before .before .before .format-placeholder .ensures) (c .with-index .ensures)
+    let token = c .before .before .before .before .before .before .before .before .before .before .before .token-at .ensures in
+    let shown = c .before .before .before .before .before .before .before .before .before .get-counted .ensures in (
+      by-placeholder (now (start .args .sheet)) (start .args .x) (start .args .i) (start .args .s) _ (start .pre) _ token _ shown _ (c .before .before .before .before .before .before .before .value-in .ensures) _ _ _ (c .before .before .before .before .before .before .offends .ensures) (c .before .before .format-placeholder .ensures),
+      by-row (now (start .args .sheet)) (start .args .x) (start .args .i) (start .args .s) _ (start .pre) _ token _ shown _ (c .before .before .before .before .before .entry-word .ensures),
+    )
 
 pub format-placeholder-spec : {M : Type 1} → statement M
 format-placeholder-spec =
@@ -39,7 +42,7 @@ format-placeholder-spec =
     get-counted-requires
     value-in-requires
     offends-requires
+    entry-word-requires
     format-placeholder-requires
-    with-index-requires
     same-length
     returns)

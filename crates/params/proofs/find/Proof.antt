@@ -1,7 +1,7 @@
 use borrow.Author.Needs.{needs}
-use Rattle.params.proofs.EntryLaws.{entry-record, shown-entry, shown-own}
-use Rattle.params.proofs.place_shown.Statement.{statement}
-use Rattle.params.proofs.place_shown.Tie as tie
+use Rattle.params.proofs.EntryLaws.{entry-record, found-entry, found-own}
+use Rattle.params.proofs.find.Statement.{statement}
+use Rattle.params.proofs.find.Tie as tie
 
 entry-for-requires : tie.Need-entry-for-requires
 entry-for-requires c κs = search needs
@@ -16,13 +16,13 @@ enum-told : tie.Need-enum-told
 enum-told c = search needs
 
 returns : tie.Need-returns
-returns c = search (needs, shown-entry)
+returns c = search (needs, found-entry)
 
 returns-2 : tie.Need-returns-2
-returns-2 c = search (needs, shown-own)
+returns-2 c = search (needs, found-own)
 
-pub place-shown-spec : {M : Type 1} → statement M
-place-shown-spec =
+pub find-spec : {M : Type 1} → statement M
+find-spec =
     tie.close
     (tie.spec
     entry-for-requires

@@ -1,0 +1,4 @@
+pub mod Listing
+pub mod Reads
+pub mod Order
+pub mod Back
