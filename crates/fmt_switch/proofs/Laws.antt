@@ -150,23 +150,23 @@ module _ (w : Code) (k : TokenKind) (v : List ℕ) where
   unfolding turnOf switchOf
   by-dropped d = rw d
 
-  by-comment : (b : Bool) (o : Option Bool) → w .«drop_next» ≡ false → b ≡ isComment k → b ≡ true → o ≡ checkFmtOff v → turnBy (w .enabled) o ≡ turnOf (switchOf w) k v
+  pub by-comment : (b : Bool) (x : Said) (r : Turn) → w .«drop_next» ≡ false → b ≡ isComment k → b ≡ true → saidOf x ≡ checkFmtOff v → r ≡ turnBy (w .enabled) (saidOf x) → r ≡ turnOf (switchOf w) k v
   unfolding turnOf switchOf switchIn
-  by-comment b o d e t f = rw (d, ← e, t, f)
+  by-comment b x r d e t f g = rw (g, d, ← e, t, f)
 
   pub by-plain : (b : Bool) (r : Turn) → w .«drop_next» ≡ false → b ≡ isComment k → b ≡ false → r ≡ turnBy (w .enabled) none → r ≡ turnOf (switchOf w) k v
   unfolding turnOf switchOf switchIn
   by-plain b r d e t g = rw (g, d, ← e, t)
 
-  module _ (b : Bool) (x : Said) (d : w .«drop_next» ≡ false) (e : b ≡ isComment k) (t : b ≡ true) (f : saidOf x ≡ checkFmtOff v) where
-    pub by-said-on : x ≡ said.On → turn.Switches false ≡ turnOf (switchOf w) k v
-    unfolding saidOf turnBy
-    by-said-on q = by-comment b (some false) d e t (rw q at f)
+module _ (enabled : Bool) (x : Said) where
+  pub by-said-on : x ≡ said.On → turn.Switches false ≡ turnBy enabled (saidOf x)
+  unfolding saidOf turnBy
+  by-said-on q = rw q
 
-    pub by-said-off : x ≡ said.Off → turn.Switches true ≡ turnOf (switchOf w) k v
-    unfolding saidOf turnBy
-    by-said-off q = by-comment b (some true) d e t (rw q at f)
+  pub by-said-off : x ≡ said.Off → turn.Switches true ≡ turnBy enabled (saidOf x)
+  unfolding saidOf turnBy
+  by-said-off q = rw q
 
-    pub by-said-nothing : (r : Turn) → x ≡ said.Nothing → r ≡ turnBy (w .enabled) none → r ≡ turnOf (switchOf w) k v
-    unfolding saidOf
-    by-said-nothing r q g = g ∙ by-comment b none d e t (rw q at f)
+  pub by-said-nothing : (r : Turn) → x ≡ said.Nothing → r ≡ turnBy enabled none → r ≡ turnBy enabled (saidOf x)
+  unfolding saidOf
+  by-said-nothing r q g = rw q g

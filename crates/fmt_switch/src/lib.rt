@@ -8,7 +8,7 @@ ghost use lib.Dec.{eqb};
 ghost use lib.ListN.{length, getD, take, drop};
 ghost use Rattle.ascii.specs.Part.{part};
 ghost use Rattle.rules.specs.Switch.{fmtTable, inState, moved, checkFmtOff, turnBy, turnOf, switchAfter, switchedOn};
-ghost use Rattle.fmt_switch.specs.Of.{rowOf, saysNothing, movedAs, runOf, isComment, saidOf, switchOf};
+ghost use Rattle.fmt_switch.specs.Of.{rowOf, saysNothing, movedAs, runOf, saidOf, switchOf};
 use rules::TokenKind;
 use rules::Turn;
 
@@ -149,20 +149,20 @@ pub struct Switch {
     pub drop_next: bool,
 }
 
-fn is_comment(kind: TokenKind) -> bool
-    ensures { λ r. ⌜ r ≡ isComment kind ⌝ }
-{
-    match kind {
-        TokenKind::LineComment => true,
-        TokenKind::BlockComment => true,
-        _ => false,
-    }
-}
-
 fn turn_by(enabled: bool) -> Turn
     ensures { λ r. ⌜ r ≡ turnBy enabled none ⌝ }
 {
     if enabled { Turn::LaidOut } else { Turn::Copied }
+}
+
+fn turn_said(enabled: bool, said: Said) -> Turn
+    ensures { λ r. ⌜ r ≡ turnBy enabled (saidOf said) ⌝ }
+{
+    match said {
+        Said::On => Turn::Switches(false),
+        Said::Off => Turn::Switches(true),
+        Said::Nothing => turn_by(enabled),
+    }
 }
 
 impl Switch {
@@ -175,7 +175,7 @@ impl Switch {
         }
     }
 
-    // How a token of a kind and a value is taken.
+    // How a token of a kind and a value is taken. Only comments are read: the reading has a call for each kind of them, so that this stays small enough to stand in its callers' loops.
     pub fn turn_of(self, kind: TokenKind, s: &[u8], start: usize, n: usize) -> Turn
         requires { ⌜ start + n ≤ length (now s) ⌝ }
         ensures { λ r. ⌜ r ≡ turnOf (switchOf self) kind (take n (drop start (now (s .entry)))) ⌝ }
@@ -184,15 +184,11 @@ impl Switch {
         if self.drop_next {
             return Turn::Dropped;
         }
-        if is_comment(kind) {
-            let said = check_fmt_off(s, start, n);
-            return match said {
-                Said::On => Turn::Switches(false),
-                Said::Off => Turn::Switches(true),
-                Said::Nothing => turn_by(enabled),
-            };
+        match kind {
+            TokenKind::LineComment => turn_said(enabled, check_fmt_off(s, start, n)),
+            TokenKind::BlockComment => turn_said(enabled, check_fmt_off(s, start, n)),
+            _ => turn_by(enabled),
         }
-        turn_by(enabled)
     }
 
     pub fn after(self, turn: Turn) -> Self
