@@ -21,7 +21,7 @@ use Rattle.stacks.specs.Stack.{stack, Kept, withinOf}
 use Rattle.stacks.specs.Laws.{length-stack, stack-push, stack-put, stack-pop, stack-popped, kept-push, kept-put, kept-pop, every-set, kept-none, every-same, same-or, left-of, right-of, unless-both, tail-map}
 use Rattle.indentation.specs.declared.Indentation.{Indentation as Code}
 use Rattle.indentation.specs.declared.Previous.{Previous}
-use Rattle.indentation.specs.Of.{reservedAfter, topLevelAfter, topIn, typeOf, kindFor, weightOf, wordOf, topOf, previousOf, noPrevious, typesOf, indentationOf, lastOf, tops, endsTop, Told, Clean, Stands, StandsClosed}
+use Rattle.indentation.specs.Of.{reservedAfter, topLevelAfter, topIn, typeOf, kindFor, wordOf, topOf, previousOf, noPrevious, typesOf, indentationOf, lastOf, tops, endsTop, Told, Clean, Stands, StandsClosed}
 
 tops-within : (ts : List IndentType) → tops ts ≤ length ts
 unfolding tops
@@ -176,27 +176,45 @@ unfolding lastReserved previousOf wordOf
 last-reserved [] = refl
 last-reserved (p ∷ ps) = refl
 
-pub by-one : (k : ℕ) → k < 2 → 1 ≡ weightOf k
-unfolding weightOf
-by-one zero h = refl
-by-one (suc zero) h = refl
-by-one (suc (suc k)) h = absurd (omega arith)
+-- ---- the entries that aren't folded
 
-pub by-nought : (k : ℕ) → 2 ≤ k → 0 ≡ weightOf k
-unfolding weightOf
-by-nought zero h = absurd (omega arith)
-by-nought (suc zero) h = absurd (omega arith)
-by-nought (suc (suc k)) h = refl
+unfolded-within : (ts : List IndentType) → unfolded ts ≤ length ts
+unfolding unfolded
+unfolded-within [] = omega arith
+unfolded-within (Top ∷ ts) = let h = unfolded-within ts in omega arith
+unfolded-within (Block ∷ ts) = let h = unfolded-within ts in omega arith
+unfolded-within (FoldedBlock ∷ ts) = let h = unfolded-within ts in omega arith
 
-unfolded-kind : (k : ℕ) (ts : List IndentType) → unfolded (typeOf k ∷ ts) ≡ unfolded ts + weightOf k
-unfolding typeOf unfolded weightOf
-unfolded-kind zero ts = omega arith
-unfolded-kind (suc zero) ts = omega arith
-unfolded-kind (suc (suc k)) ts = omega arith
+level-within : (i : Code) → Clean i → i .level ≤ 128
+level-within i c =
+    let t = unfolded-within (typesOf i) in
+    let l = types-length i in
+    let e = c .counted in
+    let k = c .kinds .within in
+    omega arith
 
--- one entry more is counted
-pub counts-on : (n count w : ℕ) (a : List ℕ) → w ≡ weightOf (getD a n 0) → count ≡ unfolded (map typeOf (stack 0 n a)) → count + w ≡ unfolded (map typeOf (stack 0 (n + 1) a))
-counts-on n count w a e f = rw (add-one, e, f, unfolded-kind)
+pub by-room : (i : Code) → Clean i → i .level ≤ 129
+by-room i c = let h = level-within i c in omega arith
+
+-- a block counts unless it is folded
+block-level : (folded : Bool) (n : ℕ) (ts : List IndentType) → n ≡ unfolded ts → (if eqb (kindFor folded) 1 then n + 1 else n) ≡ unfolded (typeOf (kindFor folded) ∷ ts)
+unfolding typeOf kindFor unfolded
+block-level true n ts e = e
+block-level false n ts e = omega arith
+
+top-level : (ts : List IndentType) → endsTop ts ≡ true → unfolded ts - 1 ≡ unfolded (tail ts)
+unfolding unfolded endsTop
+top-level [] e = false-true e
+top-level (Top ∷ ts) e = omega arith
+top-level (Block ∷ ts) e = false-true e
+top-level (FoldedBlock ∷ ts) e = false-true e
+
+left-level : (k n : ℕ) (ts : List IndentType) → k ≤ 2 → endsTop (typeOf k ∷ ts) ≡ false → n ≡ unfolded (typeOf k ∷ ts) → (if eqb k 1 then n - 1 else n) ≡ unfolded ts
+unfolding typeOf endsTop unfolded
+left-level zero n ts h e f = false-true (sym e)
+left-level (suc zero) n ts h e f = omega arith
+left-level (suc (suc zero)) n ts h e f = f
+left-level (suc (suc (suc k))) n ts h e f = absurd (omega arith)
 
 -- what holds of z and of every element holds of every element after a pop
 popped-every : {A : Type 0} (z : A) (P : A → Type 0) {cap n : ℕ} {a : List A} → Kept z cap n a → 0 < cap → P z → ((k : ℕ) → P (getD a k z)) → (k : ℕ) → P (getD (set a (n - 1) z) k z)
@@ -222,8 +240,8 @@ module _ (i : Code) (c : Clean i) where
 
   pub by-top : (sp : SpanInfo) → i .nkinds < 128
       → Stands (increaseTopLevel sp (indentationOf i))
-      (record { kinds = set (i .kinds) (i .nkinds) 0; nkinds = i .nkinds + 1; spans = set (i .spans) (i .nspans) (sp .«full_span»); nspans = i .nspans + 1; previous = i .previous; nprevious = i .nprevious })
-  unfolding increaseTopLevel indentationOf typesOf typeOf tops
+      (record { kinds = set (i .kinds) (i .nkinds) 0; nkinds = i .nkinds + 1; spans = set (i .spans) (i .nspans) (sp .«full_span»); nspans = i .nspans + 1; previous = i .previous; nprevious = i .nprevious; level = i .level + 1 })
+  unfolding increaseTopLevel indentationOf typesOf typeOf tops unfolded
   by-top sp h =
       let l = c .kinds .long in
       let m = c .spans .long in
@@ -242,6 +260,7 @@ module _ (i : Code) (c : Clean i) where
           previous = c .previous;
           told = c .told;
           fewer = omega arith;
+          counted = rw e (let q = c .counted in omega arith);
         };
       }
 
@@ -253,7 +272,7 @@ module _ (i : Code) (c : Clean i) where
 
   block-pushed : (folded : Bool) (k : ℕ) → k ≡ kindFor folded → i .nkinds < 128
       → Stands (increaseBlockLevel folded (indentationOf i))
-      (record { kinds = set (i .kinds) (i .nkinds) k; nkinds = i .nkinds + 1; spans = i .spans; nspans = i .nspans; previous = set (i .previous) (i .nprevious) noPrevious; nprevious = i .nprevious + 1 })
+      (record { kinds = set (i .kinds) (i .nkinds) k; nkinds = i .nkinds + 1; spans = i .spans; nspans = i .nspans; previous = set (i .previous) (i .nprevious) noPrevious; nprevious = i .nprevious + 1; level = (if eqb k 1 then i .level + 1 else i .level) })
   unfolding increaseBlockLevel indentationOf typesOf previousOf noneBefore wordOf topOf
   block-pushed folded k q h =
       let l = c .kinds .long in
@@ -273,6 +292,7 @@ module _ (i : Code) (c : Clean i) where
           previous = kept-push noPrevious noPrevious g (c .previous);
           told = every-set noPrevious Told (i .previous) (i .nprevious) noPrevious p (λ t. refl) (c .told);
           fewer = omega arith;
+          counted = rw (e, q) (block-level folded (i .level) (typesOf i) (c .counted));
         };
       }
 
@@ -286,25 +306,25 @@ module _ (i : Code) (c : Clean i) where
   stays : Stands (indentationOf i) i
   stays = record { is = refl; clean = c }
 
-  pub by-top-if : (b g : Bool) (sp : SpanInfo) (at v n m : ℕ) → g ≡ (b && ltb (i .nkinds) 128) → at ≡ withinOf (i .nspans) → v ≡ (if g then sp .«full_span» else getD (i .spans) at 0) → n ≡ (if g then i .nspans + 1 else i .nspans) → m ≡ (if g then i .nkinds + 1 else i .nkinds)
+  pub by-top-if : (b g : Bool) (sp : SpanInfo) (at v n m l : ℕ) → g ≡ (b && ltb (i .nkinds) 128) → at ≡ withinOf (i .nspans) → v ≡ (if g then sp .«full_span» else getD (i .spans) at 0) → n ≡ (if g then i .nspans + 1 else i .nspans) → m ≡ (if g then i .nkinds + 1 else i .nkinds) → l ≡ (if g then i .level + 1 else i .level)
       → Stands (when b (increaseTopLevel sp) (indentationOf i))
-      (record { kinds = i .kinds; nkinds = m; spans = set (i .spans) at v; nspans = n; previous = i .previous; nprevious = i .nprevious })
+      (record { kinds = i .kinds; nkinds = m; spans = set (i .spans) at v; nspans = n; previous = i .previous; nprevious = i .nprevious; level = l })
   unfolding when
-  by-top-if b true sp at v n m eg ea ev en em =
+  by-top-if b true sp at v n m l eg ea ev en em el =
       let h = ltb-true _ _ (right-of b _ (sym eg)) in
       let r = lt-ltb _ _ (spans-room i c h) in
-      rw (left-of b _ (sym eg), ea, r, ev, en, em) (rw kinds-above at (by-top sp h))
-  by-top-if b false sp at v n m eg ea ev en em =
+      rw (left-of b _ (sym eg), ea, r, ev, en, em, el) (rw kinds-above at (by-top sp h))
+  by-top-if b false sp at v n m l eg ea ev en em el =
       let f = unless-both b (ltb (i .nkinds) 128) (increaseTopLevel sp) (indentationOf i) (sym eg) (λ q. sym (by-top-full sp (ltb-false _ _ q) .is)) in
-      rw (f, ev, en, em, set-getD (i .spans) at 0) stays
+      rw (f, ev, en, em, el, set-getD (i .spans) at 0) stays
 
-  pub by-block-if : (folded g : Bool) (at k v n m : ℕ) → g ≡ ltb (i .nkinds) 128 → at ≡ withinOf (i .nkinds) → k ≡ kindFor folded → v ≡ (if g then k else getD (i .kinds) at 0) → n ≡ (if g then i .nkinds + 1 else i .nkinds) → m ≡ (if g then i .nprevious + 1 else i .nprevious)
+  pub by-block-if : (folded g f : Bool) (at k v n m l : ℕ) → g ≡ ltb (i .nkinds) 128 → at ≡ withinOf (i .nkinds) → k ≡ kindFor folded → v ≡ (if g then k else getD (i .kinds) at 0) → n ≡ (if g then i .nkinds + 1 else i .nkinds) → m ≡ (if g then i .nprevious + 1 else i .nprevious) → f ≡ (g && eqb k 1) → l ≡ (if f then i .level + 1 else i .level)
       → Stands (increaseBlockLevel folded (indentationOf i))
-      (record { kinds = set (i .kinds) at v; nkinds = n; spans = i .spans; nspans = i .nspans; previous = i .previous; nprevious = m })
-  by-block-if folded true at k v n m eg ea ek ev en em =
-      rw (ea, ← eg, ev, en, em) (rw previous-above at (block-pushed folded k ek (ltb-true _ _ (sym eg))))
-  by-block-if folded false at k v n m eg ea ek ev en em =
-      rw (ev, en, em, set-getD (i .kinds) at 0) (by-block-full folded (ltb-false _ _ (sym eg)))
+      (record { kinds = set (i .kinds) at v; nkinds = n; spans = i .spans; nspans = i .nspans; previous = i .previous; nprevious = m; level = l })
+  by-block-if folded true f at k v n m l eg ea ek ev en em ef el =
+      rw (ea, ← eg, ev, en, em, el, ef) (rw previous-above at (block-pushed folded k ek (ltb-true _ _ (sym eg))))
+  by-block-if folded false f at k v n m l eg ea ek ev en em ef el =
+      rw (ev, en, em, el, ef, set-getD (i .kinds) at 0) (by-block-full folded (ltb-false _ _ (sym eg)))
 
   -- ---- a top-level entry less
 
@@ -314,7 +334,7 @@ module _ (i : Code) (c : Clean i) where
 
   top-popped : endsTop (typesOf i) ≡ true
       → Stands (decreaseTopLevel (indentationOf i))
-      (record { kinds = set (i .kinds) (i .nkinds - 1) 0; nkinds = i .nkinds - 1; spans = set (i .spans) (i .nspans - 1) 0; nspans = i .nspans - 1; previous = set (i .previous) (i .nprevious - 1) noPrevious; nprevious = i .nprevious - 1 })
+      (record { kinds = set (i .kinds) (i .nkinds - 1) 0; nkinds = i .nkinds - 1; spans = set (i .spans) (i .nspans - 1) 0; nspans = i .nspans - 1; previous = set (i .previous) (i .nprevious - 1) noPrevious; nprevious = i .nprevious - 1; level = i .level - 1 })
   unfolding decreaseTopLevel indentationOf typesOf
   top-popped h =
       let e : map typeOf (stack 0 (i .nkinds - 1) (set (i .kinds) (i .nkinds - 1) 0)) ≡ tail (typesOf i) = rw (stack-popped 0 (i .nkinds) (i .kinds), tail-map) in
@@ -331,6 +351,7 @@ module _ (i : Code) (c : Clean i) where
           previous = kept-pop noPrevious (omega arith) (c .previous);
           told = popped-every noPrevious Told (c .previous) (omega arith) (λ t. refl) (c .told);
           fewer = omega arith;
+          counted = rw (e, c .counted) (top-level (typesOf i) h);
         };
       }
 
@@ -349,18 +370,18 @@ module _ (i : Code) (c : Clean i) where
   -- the arrays after a top-level entry
   pub by-popped : endsTop (typesOf i) ≡ true
       → Stands (decreaseTopLevel (indentationOf i))
-      (record { kinds = i .kinds; nkinds = i .nkinds - 1; spans = set (i .spans) (i .nspans - 1) 0; nspans = i .nspans - 1; previous = set (i .previous) (i .nprevious - 1) noPrevious; nprevious = i .nprevious - 1 })
+      (record { kinds = i .kinds; nkinds = i .nkinds - 1; spans = set (i .spans) (i .nspans - 1) 0; nspans = i .nspans - 1; previous = set (i .previous) (i .nprevious - 1) noPrevious; nprevious = i .nprevious - 1; level = i .level - 1 })
   by-popped h = rw (top-kind h) at (top-popped h)
 
-  pub by-top-pops-if : (b e g : Bool) (s v n p m k : ℕ) (u w : Previous) → e ≡ endsTop (typesOf i) → g ≡ (b && e) → s ≡ i .nspans - 1 → v ≡ (if g then 0 else getD (i .spans) s 0) → n ≡ (if g then i .nspans - 1 else i .nspans) → p ≡ i .nprevious - 1 → u ≡ noPrevious → w ≡ (if g then u else getD (i .previous) p noPrevious) → m ≡ (if g then i .nprevious - 1 else i .nprevious) → k ≡ (if g then i .nkinds - 1 else i .nkinds)
+  pub by-top-pops-if : (b e g : Bool) (s v n p m k l : ℕ) (u w : Previous) → e ≡ endsTop (typesOf i) → g ≡ (b && e) → s ≡ i .nspans - 1 → v ≡ (if g then 0 else getD (i .spans) s 0) → n ≡ (if g then i .nspans - 1 else i .nspans) → p ≡ i .nprevious - 1 → u ≡ noPrevious → w ≡ (if g then u else getD (i .previous) p noPrevious) → m ≡ (if g then i .nprevious - 1 else i .nprevious) → k ≡ (if g then i .nkinds - 1 else i .nkinds) → l ≡ (if g then i .level - 1 else i .level)
       → Stands (when b decreaseTopLevel (indentationOf i))
-      (record { kinds = i .kinds; nkinds = k; spans = set (i .spans) s v; nspans = n; previous = set (i .previous) p w; nprevious = m })
+      (record { kinds = i .kinds; nkinds = k; spans = set (i .spans) s v; nspans = n; previous = set (i .previous) p w; nprevious = m; level = l })
   unfolding when
-  by-top-pops-if b e true s v n p m k u w ee eg es ev en ep eu ew em ek =
-      rw (left-of b _ (sym eg), es, ev, en, ep, ew, eu, em, ek) (by-popped (sym ee ∙ right-of b _ (sym eg)))
-  by-top-pops-if b e false s v n p m k u w ee eg es ev en ep eu ew em ek =
+  by-top-pops-if b e true s v n p m k l u w ee eg es ev en ep eu ew em ek el =
+      rw (left-of b _ (sym eg), es, ev, en, ep, ew, eu, em, ek, el) (by-popped (sym ee ∙ right-of b _ (sym eg)))
+  by-top-pops-if b e false s v n p m k l u w ee eg es ev en ep eu ew em ek el =
       let f = unless-both b e decreaseTopLevel (indentationOf i) (sym eg) (λ q. sym (by-no-top e ee q .is)) in
-      rw (f, ev, en, ew, em, ek, set-getD (i .spans) s 0, set-getD (i .previous) p noPrevious) stays
+      rw (f, ev, en, ew, em, ek, el, set-getD (i .spans) s 0, set-getD (i .previous) p noPrevious) stays
 
   pub top-shortens : (r : Code) → endsTop (typesOf i) ≡ true → Stands (decreaseTopLevel (indentationOf i)) r → r .nkinds < i .nkinds
   unfolding decreaseTopLevel indentationOf
@@ -382,7 +403,7 @@ module _ (i : Code) (c : Clean i) where
       → StandsClosed (decreaseBlockLevel (indentationOf i))
       (record {
         folded = eqb (getD (i .kinds) (i .nkinds - 1) 0) 2;
-        left = record { kinds = set (i .kinds) (i .nkinds - 1) 0; nkinds = i .nkinds - 1; spans = i .spans; nspans = i .nspans; previous = set (i .previous) (i .nprevious - 1) noPrevious; nprevious = i .nprevious - 1 };
+        left = record { kinds = set (i .kinds) (i .nkinds - 1) 0; nkinds = i .nkinds - 1; spans = i .spans; nspans = i .nspans; previous = set (i .previous) (i .nprevious - 1) noPrevious; nprevious = i .nprevious - 1; level = (if eqb (getD (i .kinds) (i .nkinds - 1) 0) 1 then i .level - 1 else i .level) };
       })
   unfolding decreaseBlockLevel indentationOf typesOf
   block-popped z h =
@@ -403,32 +424,33 @@ module _ (i : Code) (c : Clean i) where
             previous = kept-pop noPrevious (omega arith) (c .previous);
             told = popped-every noPrevious Told (c .previous) (omega arith) (λ t. refl) (c .told);
             fewer = omega arith;
+            counted = rw (e, t) (left-level k (i .level) (map typeOf (stack 0 (i .nkinds - 1) (i .kinds))) (c .known (i .nkinds - 1)) (rw t at h) (rw t at (c .counted)));
           };
         };
       }
 
-  pub by-closes : (g : Bool) (k q : ℕ) (u : Previous) → g ≡ ltb 0 (i .nkinds) → endsTop (typesOf i) ≡ false → k ≡ i .nkinds - 1 → q ≡ (if g then i .nprevious - 1 else i .nprevious) → u ≡ noPrevious
+  pub by-closes : (g : Bool) (k q l : ℕ) (u : Previous) → g ≡ ltb 0 (i .nkinds) → endsTop (typesOf i) ≡ false → k ≡ i .nkinds - 1 → q ≡ (if g then i .nprevious - 1 else i .nprevious) → u ≡ noPrevious → l ≡ (if eqb (getD (i .kinds) k 0) 1 then i .level - 1 else i .level)
       → StandsClosed (decreaseBlockLevel (indentationOf i))
       (record {
         folded = eqb (getD (i .kinds) k 0) 2;
-        left = record { kinds = set (i .kinds) k 0; nkinds = k; spans = i .spans; nspans = i .nspans; previous = set (i .previous) q u; nprevious = q };
+        left = record { kinds = set (i .kinds) k 0; nkinds = k; spans = i .spans; nspans = i .nspans; previous = set (i .previous) q u; nprevious = q; level = l };
       })
-  by-closes true k q u eg h ek eq eu =
-      let l : 0 < i .nkinds = ltb-true 0 (i .nkinds) (sym eg) in
-      rw (ek, eq, eu) (block-popped (λ z. omega arith) h)
-  by-closes false k q u eg h ek eq eu =
-      let l : i .nkinds ≤ 0 = ltb-false 0 (i .nkinds) (sym eg) in
+  by-closes true k q l u eg h ek eq eu el =
+      let some : 0 < i .nkinds = ltb-true 0 (i .nkinds) (sym eg) in
+      rw (el, ek, eq, eu) (block-popped (λ z. omega arith) h)
+  by-closes false k q l u eg h ek eq eu el =
+      let few : i .nkinds ≤ 0 = ltb-false 0 (i .nkinds) (sym eg) in
       let z : i .nkinds ≡ 0 = omega arith in
       let k0 : k ≡ i .nkinds = omega arith in
       let a : getD (i .kinds) (i .nkinds) 0 ≡ 0 = c .kinds .above (i .nkinds) (omega arith) in
-      rw (k0, a, kinds-above, eq, eu, previous-above) (by-none-left z)
+      rw (el, k0, a, kinds-above, eq, eu, previous-above) (by-none-left z)
 
   -- ---- previous words: the first, and one in place of the last
 
   -- a word v on an empty stack, w being what the rules' list becomes
   first-word : (v : Previous) (w : List (PreviousTokens ℕ)) → i .nprevious ≡ 0 → Told v → previousOf v ∷ [] ≡ w
       → Stands (record { indentTypes = indentationOf i .indentTypes; topLevelSpan = indentationOf i .topLevelSpan; previous = w })
-      (record { kinds = i .kinds; nkinds = i .nkinds; spans = i .spans; nspans = i .nspans; previous = set (i .previous) 0 v; nprevious = 1 })
+      (record { kinds = i .kinds; nkinds = i .nkinds; spans = i .spans; nspans = i .nspans; previous = set (i .previous) 0 v; nprevious = 1; level = i .level })
   unfolding indentationOf typesOf
   first-word v w z t e =
       let l = c .previous .long in
@@ -444,12 +466,13 @@ module _ (i : Code) (c : Clean i) where
           previous = k;
           told = every-set noPrevious Told (i .previous) 0 v m t (c .told);
           fewer = omega arith;
+          counted = c .counted;
         };
       }
 
   next-word : (v : Previous) (w : List (PreviousTokens ℕ)) → (i .nprevious ≡ 0 → ⊥) → Told v → previousOf v ∷ tail (indentationOf i .previous) ≡ w
       → Stands (record { indentTypes = indentationOf i .indentTypes; topLevelSpan = indentationOf i .topLevelSpan; previous = w })
-      (record { kinds = i .kinds; nkinds = i .nkinds; spans = i .spans; nspans = i .nspans; previous = set (i .previous) (i .nprevious - 1) v; nprevious = i .nprevious })
+      (record { kinds = i .kinds; nkinds = i .nkinds; spans = i .spans; nspans = i .nspans; previous = set (i .previous) (i .nprevious - 1) v; nprevious = i .nprevious; level = i .level })
   unfolding indentationOf typesOf
   next-word v w z t e =
       let l = c .previous .long in
@@ -466,6 +489,7 @@ module _ (i : Code) (c : Clean i) where
           previous = kept-put noPrevious v z (c .previous);
           told = every-set noPrevious Told (i .previous) (i .nprevious - 1) v m t (c .told);
           fewer = c .fewer;
+          counted = c .counted;
         };
       }
 
@@ -479,28 +503,28 @@ module _ (i : Code) (c : Clean i) where
 
   by-first-reserved : (t : ℕ) (u v : Previous) → i .nprevious ≡ 0 → u ≡ noPrevious → v ≡ reservedAfter u t
       → Stands (setPreviousReserved t (indentationOf i))
-      (record { kinds = i .kinds; nkinds = i .nkinds; spans = i .spans; nspans = i .nspans; previous = set (i .previous) 0 v; nprevious = 1 })
+      (record { kinds = i .kinds; nkinds = i .nkinds; spans = i .spans; nspans = i .nspans; previous = set (i .previous) 0 v; nprevious = 1; level = i .level })
   unfolding setPreviousReserved markReserved previousOf topOf
   by-first-reserved t u v z e f =
       rw (f, e) (first-word (reservedAfter noPrevious t) _ z (λ q. refl) (rw (after-reserved, no-words z)))
 
   by-first-top-level : (t : ℕ) (sp : SpanInfo) (v : Previous) → i .nprevious ≡ 0 → v ≡ topLevelAfter (t + 1) sp
       → Stands (setPreviousTopLevel t sp (indentationOf i))
-      (record { kinds = i .kinds; nkinds = i .nkinds; spans = i .spans; nspans = i .nspans; previous = set (i .previous) 0 v; nprevious = 1 })
+      (record { kinds = i .kinds; nkinds = i .nkinds; spans = i .spans; nspans = i .nspans; previous = set (i .previous) 0 v; nprevious = 1; level = i .level })
   unfolding setPreviousTopLevel markTopLevel wordOf
   by-first-top-level t sp v z e =
       rw e (first-word (topLevelAfter (t + 1) sp) _ z (λ q. false-true (sym q)) (rw (after-top-level, no-words z, add-one)))
 
   by-next-reserved : (t : ℕ) (v : Previous) → (i .nprevious ≡ 0 → ⊥) → v ≡ reservedAfter (getD (i .previous) (i .nprevious - 1) noPrevious) t
       → Stands (setPreviousReserved t (indentationOf i))
-      (record { kinds = i .kinds; nkinds = i .nkinds; spans = i .spans; nspans = i .nspans; previous = set (i .previous) (i .nprevious - 1) v; nprevious = i .nprevious })
+      (record { kinds = i .kinds; nkinds = i .nkinds; spans = i .spans; nspans = i .nspans; previous = set (i .previous) (i .nprevious - 1) v; nprevious = i .nprevious; level = i .level })
   unfolding setPreviousReserved markReserved
   by-next-reserved t v z e =
       rw e (next-word (reservedAfter (getD (i .previous) (i .nprevious - 1) noPrevious) t) _ z (c .told (i .nprevious - 1)) (rw (after-reserved) (sym (rw (some-words z)))))
 
   by-next-top-level : (t : ℕ) (sp : SpanInfo) (v : Previous) → (i .nprevious ≡ 0 → ⊥) → v ≡ topLevelAfter (getD (i .previous) (i .nprevious - 1) noPrevious .word) sp
       → Stands (setPreviousTopLevel t sp (indentationOf i))
-      (record { kinds = i .kinds; nkinds = i .nkinds; spans = i .spans; nspans = i .nspans; previous = set (i .previous) (i .nprevious - 1) v; nprevious = i .nprevious })
+      (record { kinds = i .kinds; nkinds = i .nkinds; spans = i .spans; nspans = i .nspans; previous = set (i .previous) (i .nprevious - 1) v; nprevious = i .nprevious; level = i .level })
   unfolding setPreviousTopLevel markTopLevel previousOf
   by-next-top-level t sp v z e =
       rw e (next-word (topLevelAfter (getD (i .previous) (i .nprevious - 1) noPrevious .word) sp) _ z (λ q. false-true (sym q)) (rw (after-top-level) (sym (rw (some-words z)))))
@@ -510,7 +534,7 @@ module _ (i : Code) (c : Clean i) where
 
   pub by-noted-reserved : (t at m : ℕ) (v : Previous) → at ≡ i .nprevious - 1 → v ≡ reservedAfter (getD (i .previous) at noPrevious) t → m ≡ at + 1
       → Stands (setPreviousReserved t (indentationOf i))
-      (record { kinds = i .kinds; nkinds = i .nkinds; spans = i .spans; nspans = i .nspans; previous = set (i .previous) at v; nprevious = m })
+      (record { kinds = i .kinds; nkinds = i .nkinds; spans = i .spans; nspans = i .nspans; previous = set (i .previous) at v; nprevious = m; level = i .level })
   by-noted-reserved t at m v ea ev em =
       ⊎-elim
       (λ (z : i .nprevious ≡ 0).
@@ -524,7 +548,7 @@ module _ (i : Code) (c : Clean i) where
 
   pub by-noted-top-level : (t at m w : ℕ) (sp : SpanInfo) (v : Previous) → at ≡ i .nprevious - 1 → w ≡ (if eqb (i .nprevious) 0 then t + 1 else getD (i .previous) at noPrevious .word) → v ≡ topLevelAfter w sp → m ≡ at + 1
       → Stands (setPreviousTopLevel t sp (indentationOf i))
-      (record { kinds = i .kinds; nkinds = i .nkinds; spans = i .spans; nspans = i .nspans; previous = set (i .previous) at v; nprevious = m })
+      (record { kinds = i .kinds; nkinds = i .nkinds; spans = i .spans; nspans = i .nspans; previous = set (i .previous) at v; nprevious = m; level = i .level })
   by-noted-top-level t at m w sp v ea ew ev em =
       ⊎-elim
       (λ (z : i .nprevious ≡ 0).
@@ -580,13 +604,10 @@ module _ (i : Code) (c : Clean i) where
   pub by-reserved-in : (p : Previous) (v : Option ℕ) → p ≡ lastOf i → v ≡ wordOf (p .word) → v ≡ previousReserved (indentationOf i)
   by-reserved-in p v e h = h ∙ (rw (← e) at reserved-told)
 
-  pub by-level : (n : ℕ) (folded : Bool) → folded ≡ false → n ≡ unfolded (typesOf i) → n ≡ indentLevel folded (indentationOf i)
+  pub by-level : (n : ℕ) (folded : Bool) → n ≡ (if folded then i .level - 1 else i .level) → (n ≡ indentLevel folded (indentationOf i)) × (n ≤ 128)
   unfolding indentLevel indentationOf
-  by-level n folded h e = rw (← e, h, sub-zero)
-
-  pub by-level-folded : (n m : ℕ) (folded : Bool) → folded ≡ true → n ≡ unfolded (typesOf i) → m ≡ n - 1 → m ≡ indentLevel folded (indentationOf i)
-  unfolding indentLevel indentationOf
-  by-level-folded n m folded h e f = rw (f, ← e, h)
+  by-level n true e = let h = level-within i c in (e ∙ ap (λ (m : ℕ). m - 1) (c .counted), omega arith)
+  by-level n false e = let h = level-within i c in (e ∙ c .counted ∙ sym (sub-zero (unfolded (typesOf i))), omega arith)
 
 -- ---- the loop that pops a block
 
@@ -612,25 +633,25 @@ module _ (d : Indentation ℕ) (i : Code) (l : Left d i) (b : Bool) (k : ℕ) (e
   pub left-shorter : b ≡ true → i .nkinds - 1 < i .nkinds
   left-shorter h = top-shortens i (l .clean) _ (sym ends ∙ h) (by-popped i (l .clean) (sym ends ∙ h))
 
-  pub left-goes : (n s p : ℕ) (u : Previous) → b ≡ true → n ≡ i .nkinds - 1 → s ≡ i .nspans - 1 → p ≡ i .nprevious - 1 → u ≡ noPrevious
-      → Left d (record { kinds = i .kinds; nkinds = n; spans = set (i .spans) s 0; nspans = s; previous = set (i .previous) p u; nprevious = p })
+  pub left-goes : (n s p m : ℕ) (u : Previous) → b ≡ true → n ≡ i .nkinds - 1 → s ≡ i .nspans - 1 → p ≡ i .nprevious - 1 → m ≡ i .level - 1 → u ≡ noPrevious
+      → Left d (record { kinds = i .kinds; nkinds = n; spans = set (i .spans) s 0; nspans = s; previous = set (i .previous) p u; nprevious = p; level = m })
   unfolding indentationOf
-  left-goes n s p u h en es ep eu =
+  left-goes n s p m u h en es ep em eu =
       let t = by-popped i (l .clean) (sym ends ∙ h) in
-      rw (en, es, ep, eu)
+      rw (en, es, ep, em, eu)
       (record { clean = t .clean; same = ap decreaseBlockLevel (t .is) ∙ top-skips (indentationOf i) (sym ends ∙ h) ∙ l .same })
 
-  pub left-closes : (g : Bool) (m q : ℕ) (u : Previous) → b ≡ false → g ≡ ltb 0 (i .nkinds) → m ≡ i .nkinds - 1 → q ≡ (if g then i .nprevious - 1 else i .nprevious) → u ≡ noPrevious
+  pub left-closes : (g : Bool) (m q n : ℕ) (u : Previous) → b ≡ false → g ≡ ltb 0 (i .nkinds) → m ≡ i .nkinds - 1 → q ≡ (if g then i .nprevious - 1 else i .nprevious) → u ≡ noPrevious → n ≡ (if eqb (getD (i .kinds) m 0) 1 then i .level - 1 else i .level)
       → StandsClosed (decreaseBlockLevel d)
       (record {
         folded = eqb (getD (i .kinds) m 0) 2;
-        left = record { kinds = set (i .kinds) m 0; nkinds = m; spans = i .spans; nspans = i .nspans; previous = set (i .previous) q u; nprevious = q };
+        left = record { kinds = set (i .kinds) m 0; nkinds = m; spans = i .spans; nspans = i .nspans; previous = set (i .previous) q u; nprevious = q; level = n };
       })
-  left-closes g m q u h eg em eq eu = rw (l .same) at (by-closes i (l .clean) g m q u eg (sym ends ∙ h) em eq eu)
+  left-closes g m q n u h eg em eq eu en = rw (l .same) at (by-closes i (l .clean) g m q n u eg (sym ends ∙ h) em eq eu en)
 
 pub by-new : (v : Previous) → v ≡ noPrevious
-    → Stands noIndentation (record { kinds = replicate 128 0; nkinds = 0; spans = replicate 128 0; nspans = 0; previous = replicate 129 v; nprevious = 0 })
-unfolding noIndentation indentationOf typesOf tops
+    → Stands noIndentation (record { kinds = replicate 128 0; nkinds = 0; spans = replicate 128 0; nspans = 0; previous = replicate 129 v; nprevious = 0; level = 0 })
+unfolding noIndentation indentationOf typesOf tops unfolded
 by-new v e =
     rw e
     (record {
@@ -643,5 +664,6 @@ by-new v e =
         previous = kept-none noPrevious 129;
         told = every-same noPrevious Told 129 (λ t. refl);
         fewer = omega arith;
+        counted = refl;
       };
     })

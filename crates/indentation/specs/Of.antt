@@ -9,7 +9,7 @@ use lib.ListN.{getD}
 use Rattle.rules.specs.declared.IndentType.{IndentType}
 use Rattle.rules.specs.declared.IndentType.the-variants.{Top, Block, FoldedBlock}
 use Rattle.rules.specs.declared.SpanInfo.{SpanInfo}
-use Rattle.rules.specs.Indentation.{Indentation, PreviousTokens, Closed}
+use Rattle.rules.specs.Indentation.{Indentation, PreviousTokens, Closed, unfolded}
 use Rattle.stacks.specs.Stack.{stack, Kept}
 use Rattle.indentation.specs.declared.Previous.{Previous}
 use Rattle.indentation.specs.declared.Indentation.{Indentation as Code}
@@ -25,12 +25,6 @@ typeOf (suc (suc k)) = FoldedBlock
 unfoldable pub kindFor : Bool → ℕ
 kindFor true = 2
 kindFor false = 1
-
--- 0 of a folded block, and 1
-unfoldable pub weightOf : ℕ → ℕ
-weightOf zero = 1
-weightOf (suc zero) = 1
-weightOf (suc (suc k)) = 0
 
 -- the last of n kinds, k, is a top-level one
 unfoldable pub topIn : ℕ → ℕ → Bool
@@ -94,7 +88,7 @@ tops (FoldedBlock ∷ ts) = tops ts
 abbrev pub Told : Previous → Type 0
 Told p = p .«top_level» ≡ false → p .span ≡ noSpan
 
--- the invariant: each stack is kept, a span for each top-level entry, at most one previous word more than entries
+-- the invariant: each stack is kept, a span for each top-level entry, at most one previous word more than entries, the level is the count of unfolded entries
 pub record Clean (i : Code) : Type 0 where
   pub kinds : Kept 0 128 (i .nkinds) (i .kinds)
   pub known : (k : ℕ) → getD (i .kinds) k 0 ≤ 2
@@ -103,6 +97,7 @@ pub record Clean (i : Code) : Type 0 where
   pub previous : Kept noPrevious 129 (i .nprevious) (i .previous)
   pub told : (k : ℕ) → Told (getD (i .previous) k noPrevious)
   pub fewer : i .nprevious ≤ i .nkinds + 1
+  pub counted : i .level ≡ unfolded (typesOf i)
 
 -- r is the one value for w
 pub record Stands (w : Indentation ℕ) (r : Code) : Type 0 where

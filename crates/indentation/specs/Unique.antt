@@ -6,7 +6,7 @@ use mathlib.Core.List.{List, [], _∷_, map}
 use Prim.Native.Nat.{ℕ, zero, suc, _≤_}
 use native.Mathlib.Omega.{arith}
 use Rattle.rules.specs.declared.SpanInfo.{SpanInfo}
-use Rattle.rules.specs.Indentation.{Indentation, PreviousTokens, Closed}
+use Rattle.rules.specs.Indentation.{Indentation, PreviousTokens, Closed, unfolded}
 use Rattle.stacks.specs.Laws.{same-count, same-array}
 use Rattle.indentation.specs.declared.Previous.{Previous}
 use Rattle.indentation.specs.declared.Indentation.{Indentation as Code}
@@ -86,11 +86,12 @@ stands-one w r q s t =
     let an = same-array 0 (λ x. x) (λ x. Unit {0}) (λ x y u v h. h) (c .spans) (d .spans) (λ i. tt) (λ i. tt) m in
     let np = same-count noPrevious previousOf Told one-previous (r .nprevious) (q .nprevious) (r .previous) (q .previous) p in
     let ar = same-array noPrevious previousOf Told one-previous (c .previous) (d .previous) (c .told) (d .told) p in
-    let z : mk (r .kinds) (r .nkinds) (r .spans) (r .nspans) (r .previous) (r .nprevious) ≡ mk (q .kinds) (q .nkinds) (q .spans) (q .nspans) (q .previous) (q .nprevious) = cc in
+    let nl : r .level ≡ q .level = c .counted ∙ ap unfolded k ∙ sym (d .counted) in
+    let z : mk (r .kinds) (r .nkinds) (r .spans) (r .nspans) (r .previous) (r .nprevious) (r .level) ≡ mk (q .kinds) (q .nkinds) (q .spans) (q .nspans) (q .previous) (q .nprevious) (q .level) = cc in
     z
   where
-    mk : List ℕ → ℕ → List ℕ → ℕ → List Previous → ℕ → Code
-    mk k nk s ns p np = record { kinds = k; nkinds = nk; spans = s; nspans = ns; previous = p; nprevious = np }
+    mk : List ℕ → ℕ → List ℕ → ℕ → List Previous → ℕ → ℕ → Code
+    mk k nk s ns p np level = record { kinds = k; nkinds = nk; spans = s; nspans = ns; previous = p; nprevious = np; level = level }
 
 -- ---- a closed block, and what is told of the last words
 

@@ -2,9 +2,9 @@
 ghost use mathlib.Core.Path.{_≡_};
 ghost use Prim.Native.Nat.{_+_, _-_, _≤_, _<_};
 ghost use lib.Dec.{eqb};
-ghost use Rattle.rules.specs.Indentation.{noIndentation, indentLevel, increaseTopLevel, increaseBlockLevel, decreaseTopLevel, decreaseBlockLevel, setPreviousReserved, setPreviousTopLevel, previousTopLevelReserved, unfolded, span as spanOf};
+ghost use Rattle.rules.specs.Indentation.{noIndentation, indentLevel, increaseTopLevel, increaseBlockLevel, decreaseTopLevel, decreaseBlockLevel, setPreviousReserved, setPreviousTopLevel, previousTopLevelReserved, span as spanOf};
 ghost use Rattle.rules.specs.Base.{if_then_else_, when, full};
-ghost use Rattle.indentation.specs.Of.{indentationOf, typesOf, noPrevious, endsTop, kindFor, weightOf, wordOf, topOf, reservedAfter, topLevelAfter, topIn, lastOf, wordIn, spanIn, Clean, Stands, StandsClosed};
+ghost use Rattle.indentation.specs.Of.{indentationOf, typesOf, noPrevious, endsTop, kindFor, wordOf, topOf, reservedAfter, topLevelAfter, topIn, lastOf, wordIn, spanIn, Clean, Stands, StandsClosed};
 use rules::SpanInfo;
 use stacks::both;
 use stacks::chosen;
@@ -20,7 +20,7 @@ pub struct Previous {
     pub top_level: bool,
 }
 
-// Kinds: 0 Top, 1 Block, 2 FoldedBlock. Entries above the counts are zero.
+// Kinds: 0 Top, 1 Block, 2 FoldedBlock. Entries above the counts are zero. The level is the count of entries that aren't folded.
 // An operation takes out the arrays that it changes, each as a local of its own, and branches on numbers alone: so no other array is copied.
 pub struct Indentation {
     pub kinds: [u8; 128],
@@ -29,6 +29,7 @@ pub struct Indentation {
     pub nspans: usize,
     pub previous: [Previous; 129],
     pub nprevious: usize,
+    pub level: usize,
 }
 
 // A token's number, where there is one.
@@ -82,13 +83,6 @@ fn is_top(n: usize, kind: u8) -> bool
         return false;
     }
     kind == 0
-}
-
-// What an entry adds to the indent.
-fn weight(kind: u8) -> usize
-    ensures { λ r. ⌜ (r ≡ weightOf kind) × (r ≤ 1) ⌝ }
-{
-    if kind < 2 { 1 } else { 0 }
 }
 
 // ---- entries: one where b holds, else the other
@@ -172,6 +166,7 @@ impl Indentation {
             nspans: 0,
             previous: [none; 129],
             nprevious: 0,
+            level: 0,
         }
     }
 
@@ -194,6 +189,7 @@ impl Indentation {
         self.spans = spans;
         self.nspans = more_if(grows, self.nspans);
         self.nkinds = more_if(grows, self.nkinds);
+        self.level = more_if(grows, self.level);
         self
     }
 
@@ -204,12 +200,14 @@ impl Indentation {
     {
         let grows = self.nkinds < 128;
         let at = within(self.nkinds);
+        let kind = block_kind(folded);
         let mut kinds = self.kinds;
         let old = kinds[at];
-        kinds[at] = chosen_kind(grows, block_kind(folded), old);
+        kinds[at] = chosen_kind(grows, kind, old);
         self.kinds = kinds;
         self.nkinds = more_if(grows, self.nkinds);
         self.nprevious = more_if(grows, self.nprevious);
+        self.level = more_if(both(grows, kind == 1), self.level);
         self
     }
 
@@ -242,6 +240,7 @@ impl Indentation {
         self.previous = previous;
         self.nprevious = less_if(ends, self.nprevious);
         self.nkinds = less_if(ends, self.nkinds);
+        self.level = less_if(ends, self.level);
         self
     }
 
@@ -256,10 +255,12 @@ impl Indentation {
         let mut n = self.nkinds;
         let mut s = self.nspans;
         let mut p = self.nprevious;
+        let mut level = self.level;
         while is_top(n, kinds[less(n)]) {
             n = less(n);
             s = less(s);
             p = less(p);
+            level = less(level);
             spans[s] = 0;
             previous[p] = no_previous();
         }
@@ -275,6 +276,7 @@ impl Indentation {
         self.nspans = s;
         self.previous = previous;
         self.nprevious = to;
+        self.level = less_if(kind == 1, level);
         Closed {
             folded: kind == 2,
             left: self,
@@ -347,29 +349,10 @@ impl Indentation {
         128 <= self.nkinds
     }
 
-    fn unfolded_count(self) -> usize
-        requires { ⌜ Clean self ⌝ }
-        ensures { λ r. ⌜ (r ≡ unfolded (typesOf self)) × (r ≤ 128) ⌝ }
-    {
-        let n = self.nkinds;
-        let kinds = self.kinds;
-        let mut i: usize = 0;
-        let mut count: usize = 0;
-        while i < n {
-            count += weight(kinds[i]);
-            i += 1;
-        }
-        count
-    }
-
     pub fn indent_level(self, folded: bool) -> usize
         requires { ⌜ Clean self ⌝ }
         ensures { λ r. ⌜ (r ≡ indentLevel folded (indentationOf self)) × (r ≤ 128) ⌝ }
     {
-        let n = self.unfolded_count();
-        if folded {
-            return less(n);
-        }
-        n
+        less_if(folded, self.level)
     }
 }

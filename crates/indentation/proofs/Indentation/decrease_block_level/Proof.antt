@@ -6,10 +6,10 @@ use Rattle.indentation.proofs.Indentation.decrease_block_level.Statemen
 use Rattle.indentation.proofs.Indentation.decrease_block_level.Tie as tie
 
 abbrev Inv-loop : tie.InvT-loop
-Inv-loop self kinds spans₀ previous₀ n₀ s₀ p₀ spans previous n s p = Left (indentationOf self) (record { kinds = kinds; nkinds = n; spans = spans; nspans = s; previous = previous; nprevious = p })
+Inv-loop self kinds spans₀ previous₀ n₀ s₀ p₀ level₀ spans previous n s p level = Left (indentationOf self) (record { kinds = kinds; nkinds = n; spans = spans; nspans = s; previous = previous; nprevious = p; level = level })
 
 abbrev μ-loop : tie.MeasureT-loop
-μ-loop self kinds spans₀ previous₀ n₀ s₀ p₀ spans previous n s p = n
+μ-loop self kinds spans₀ previous₀ n₀ s₀ p₀ level₀ spans previous n s p level = n
 
 loop-holds : tie.Need-loop-holds Inv-loop μ-loop
 loop-holds c = search (needs, left-starts)
@@ -32,6 +32,9 @@ less-requires-3 c κs = search needs
 less-requires-4 : tie.Need-less-requires-4 Inv-loop μ-loop
 less-requires-4 c κs = search needs
 
+less-requires-5 : tie.Need-less-requires-5 Inv-loop μ-loop
+less-requires-5 c κs = search needs
+
 mul-spans : tie.Need-mul-spans Inv-loop μ-loop
 mul-spans c = search needs
 
@@ -49,17 +52,17 @@ array-set-from-previous c = search needs
 
 loop-less : tie.Need-loop-less Inv-loop μ-loop
 loop-less c =
-    let test = c .before .before .before .before .before in
-    rw (c .before .before .before .less2 .ensures)
-    (left-shorter _ _ (test .before .before .loop .inv) _ _ (test .before .less .ensures) (test .is-top .ensures) (c .before .before .before .before .if1 .taken))
+    let test = c .before .before .before .before .before .before in
+    rw (c .before .before .before .before .less2 .ensures)
+    (left-shorter _ _ (test .before .before .loop .inv) _ _ (test .before .less .ensures) (test .is-top .ensures) (c .before .before .before .before .before .if1 .taken))
 
 loop-again : tie.Need-loop-again Inv-loop μ-loop
 loop-again c =
-    let test = c .before .before .before .before .before in
-    left-goes _ _ (test .before .before .loop .inv) _ _ (test .before .less .ensures) (test .is-top .ensures) _ _ _ _ (c .before .before .before .before .if1 .taken) (c .before .before .before .less2 .ensures) (c .before .before .less3 .ensures) (c .before .less4 .ensures) (c .no-previous .ensures)
+    let test = c .before .before .before .before .before .before in
+    left-goes _ _ (test .before .before .loop .inv) _ _ (test .before .less .ensures) (test .is-top .ensures) _ _ _ _ _ (c .before .before .before .before .before .if1 .taken) (c .before .before .before .before .less2 .ensures) (c .before .before .before .less3 .ensures) (c .before .before .less4 .ensures) (c .before .less5 .ensures) (c .no-previous .ensures)
 
-less-requires-5 : tie.Need-less-requires-5 Inv-loop μ-loop
-less-requires-5 c κs = search needs
+less-requires-6 : tie.Need-less-requires-6 Inv-loop μ-loop
+less-requires-6 c κs = search needs
 
 array-read-kind : tie.Need-array-read-kind Inv-loop μ-loop
 array-read-kind c = search needs
@@ -81,10 +84,13 @@ mul-previous-2 c =
 array-set-from-previous-2 : tie.Need-array-set-from-previous-2 Inv-loop μ-loop
 array-set-from-previous-2 c = left-place _ _ (c .before .before .before .before .before .before .loop .inv) _ _ refl (c .before .less-if .ensures)
 
+less-if-requires-2 : tie.Need-less-if-requires-2 Inv-loop μ-loop
+less-if-requires-2 c κs = search needs
+
 returns : tie.Need-returns Inv-loop μ-loop
 returns c =
-    let test = c .before .before .before .before in
-    left-closes _ _ (test .before .before .loop .inv) _ _ (test .before .less .ensures) (test .is-top .ensures) _ _ _ _ (c .before .before .before .if1 .left) refl (c .before .before .less5 .ensures) (c .before .less-if .ensures) (c .no-previous2 .ensures)
+    let test = c .before .before .before .before .before in
+    left-closes _ _ (test .before .before .loop .inv) _ _ (test .before .less .ensures) (test .is-top .ensures) _ _ _ _ _ (c .before .before .before .before .if1 .left) refl (c .before .before .before .less6 .ensures) (c .before .before .less-if .ensures) (c .before .no-previous2 .ensures) (c .less-if2 .ensures)
 
 pub decrease-block-level-spec : {M : Type 1} → statement M
 decrease-block-level-spec =
@@ -99,6 +105,7 @@ decrease-block-level-spec =
     less-requires-2
     less-requires-3
     less-requires-4
+    less-requires-5
     mul-spans
     array-write-spans
     no-previous-requires
@@ -106,11 +113,12 @@ decrease-block-level-spec =
     array-set-from-previous
     loop-less
     loop-again
-    less-requires-5
+    less-requires-6
     array-read-kind
     less-if-requires
     array-write-kinds
     no-previous-requires-2
     mul-previous-2
     array-set-from-previous-2
+    less-if-requires-2
     returns)

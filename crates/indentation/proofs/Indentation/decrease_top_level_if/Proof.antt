@@ -57,6 +57,9 @@ less-if-requires-2 c κs = search needs
 less-if-requires-3 : tie.Need-less-if-requires-3
 less-if-requires-3 c κs = search needs
 
+less-if-requires-4 : tie.Need-less-if-requires-4
+less-if-requires-4 c κs = search needs
+
 returns : tie.Need-returns
 returns c = search (needs, by-top-pops-if)
 
@@ -82,4 +85,5 @@ decrease-top-level-if-spec =
     array-set-from-previous
     less-if-requires-2
     less-if-requires-3
+    less-if-requires-4
     returns)

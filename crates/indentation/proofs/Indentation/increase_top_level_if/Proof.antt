@@ -1,4 +1,4 @@
-use Rattle.indentation.proofs.Laws.{by-top-if}
+use Rattle.indentation.proofs.Laws.{by-top-if, by-room}
 use borrow.Author.Needs.{needs}
 use Rattle.indentation.proofs.Indentation.increase_top_level_if.Statement.{statement}
 use Rattle.indentation.proofs.Indentation.increase_top_level_if.Tie as tie
@@ -30,6 +30,9 @@ more-if-requires c κs = search needs
 more-if-requires-2 : tie.Need-more-if-requires-2
 more-if-requires-2 c κs = search needs
 
+more-if-requires-3 : tie.Need-more-if-requires-3
+more-if-requires-3 c κs = search (needs, by-room)
+
 returns : tie.Need-returns
 returns c = search (needs, by-top-if)
 
@@ -46,4 +49,5 @@ increase-top-level-if-spec =
     array-write-spans
     more-if-requires
     more-if-requires-2
+    more-if-requires-3
     returns)
