@@ -97,7 +97,7 @@ static void caught(int number, siginfo_t *info, void *context)
 static const char *fault(struct twigmantle_report r, const uint8_t *text, size_t room)
 {
     struct offence offence = first_offence(made, length);
-    uint64_t lines = r.length > 0, width = 0, run = 0;
+    uint64_t lines = r.length > 0, width = 0, column = 0;
     if (r.refusal > 9 || r.length > room)
         return "a number out of range";
     if (offence.refusal != 0 ? r.refusal != offence.refusal || r.place != offence.place : r.refusal > 0 && r.refusal < 5)
@@ -106,8 +106,8 @@ static const char *fault(struct twigmantle_report r, const uint8_t *text, size_t
         return "a refusal that this token cannot have";
     for (size_t i = 0; i < r.length; i++) {
         lines += text[i] == '\n';
-        run = text[i] == '\n' ? 0 : run + 1;
-        width = run > width ? run : width;
+        column = text[i] == '\n' ? 0 : text[i] == '\t' ? column + 8 - column % 8 : column + 1;
+        width = column > width ? column : width;
     }
     if ((r.refusal != 0 && r.length != 0) || (r.refusal == 0 && r.place != 0) || r.lines != lines || r.width != width)
         return "counts that are not the text's";
@@ -278,6 +278,8 @@ static void expected(const char *name, const struct sheet_plan *plan, size_t roo
             wrong("another number or place than is known");
         if (wanted.text != NULL && (r.length != strlen(wanted.text) || memcmp(text_now, wanted.text, (size_t)r.length) != 0))
             wrong("another text than is known");
+        if (wanted.width != 0 && r.width != wanted.width)
+            wrong("another width than is known");
         if (wanted.rows != NULL)
             known_rows_are(room, r, wanted.rows, wanted.row_count);
         every_list(room, r);

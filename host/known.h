@@ -4,23 +4,25 @@
 
 #include "builder.h"
 
-/* The text, or a refusal; the rows of the text, where they are given. */
+/* The text, or a refusal; the rows of the text and its width, where they are given. */
 struct wanted {
     const char *text;
     uint32_t refusal;
     uint64_t place;
     const uint32_t *rows;
     size_t row_count;
+    uint64_t width;
 };
 
 typedef void expect(const char *name, const struct sheet_plan *plan, size_t room, struct wanted wanted);
 
 enum { PLENTY = 65536 };
 
-#define TEXT(t) ((struct wanted){t, 0, 0, NULL, 0})
-#define REFUSAL(number, place) ((struct wanted){NULL, number, place, NULL, 0})
+#define TEXT(t) ((struct wanted){t, 0, 0, NULL, 0, 0})
+#define WIDE(t, width) ((struct wanted){t, 0, 0, NULL, 0, width})
+#define REFUSAL(number, place) ((struct wanted){NULL, number, place, NULL, 0, 0})
 #define ROWS(t, ...) \
-    ((struct wanted){t, 0, 0, (const uint32_t[]){__VA_ARGS__}, sizeof((const uint32_t[]){__VA_ARGS__}) / sizeof(uint32_t) / TWIGMANTLE_ROW_WORDS})
+    ((struct wanted){t, 0, 0, (const uint32_t[]){__VA_ARGS__}, sizeof((const uint32_t[]){__VA_ARGS__}) / sizeof(uint32_t) / TWIGMANTLE_ROW_WORDS, 0})
 #define OWN TWIGMANTLE_ENTRY_OWN
 #define LIST(a) (a), sizeof(a) / sizeof((a)[0])
 #define VALUE(s) {s, sizeof(s) - 1}
@@ -58,7 +60,7 @@ static void known_queries(expect *expect)
     expect("a query", &plan, 26, TEXT("SELECT\n  id\nFROM\n  calls"));
     expect("a query, too little room", &plan, 25, REFUSAL(9, 6));
     plan.options.indent = TWIGMANTLE_INDENT_TABS;
-    expect("a query with tabs", &plan, PLENTY, TEXT("SELECT\n\tid\nFROM\n\tcalls"));
+    expect("a query with tabs", &plan, PLENTY, WIDE("SELECT\n\tid\nFROM\n\tcalls", 13));
     plan.options.one_line = TWIGMANTLE_INLINE_ON;
     expect("a query on one line", &plan, PLENTY, TEXT("SELECT id FROM calls"));
     plan = of(LIST(notes));
@@ -68,6 +70,37 @@ static void known_queries(expect *expect)
     expect("two queries", &plan, PLENTY, TEXT("a;\nb"));
     plan.options.lines = 0;
     expect("two queries, no line between", &plan, PLENTY, TEXT("a;b"));
+}
+
+/* Width by columns. */
+static void known_tabs(expect *expect)
+{
+    static const struct sheet_token one[] = {TOKEN(WORD, "a\tb")}, seven[] = {TOKEN(WORD, "abcdefg\tb")}, eight[] = {TOKEN(WORD, "abcdefgh\tb")};
+    static const struct sheet_token several[] = {TOKEN(WORD, "a\tb\t\tc")}, end[] = {TOKEN(WORD, "abcdefgh\t\nb")}, anew[] = {TOKEN(WORD, "abcdef\na\tb")};
+    static const struct sheet_token back[] = {TOKEN(WORD, "ab\r\tc\rd")}, cut[] = {TOKEN(WORD, "a\t")};
+    static const struct sheet_token entry[] = {TOKEN(WORD, "abcdefg"), TOKEN(PLACEHOLDER, "?")};
+    static const struct sheet_param params[] = {{.value = VALUE("7\t8")}};
+    static const struct sheet_token notes[] = {TOKEN(LINE_COMMENT, "--\tc"), TOKEN(BLOCK_COMMENT, "/*\n\ta\tb */")};
+    struct sheet_plan plan = of(LIST(one));
+    expect("a tab", &plan, PLENTY, WIDE("a\tb", 9));
+    plan = of(LIST(seven));
+    expect("seven letters and a tab", &plan, PLENTY, WIDE("abcdefg\tb", 9));
+    plan = of(LIST(eight));
+    expect("eight letters and a tab", &plan, PLENTY, WIDE("abcdefgh\tb", 17));
+    plan = of(LIST(several));
+    expect("several tabs", &plan, PLENTY, WIDE("a\tb\t\tc", 25));
+    plan = of(LIST(end));
+    expect("a tab at a line's end", &plan, PLENTY, WIDE("abcdefgh\t\nb", 16));
+    plan = of(LIST(anew));
+    expect("a tab on the second line", &plan, PLENTY, WIDE("abcdef\na\tb", 9));
+    plan = of(LIST(back));
+    expect("a carriage return and a tab", &plan, PLENTY, WIDE("ab\r\tc\rd", 11));
+    plan = of(LIST(cut));
+    expect("a tab that is cut", &plan, PLENTY, WIDE("a", 1));
+    plan = filled(LIST(entry), TWIGMANTLE_MODE_INDEXED, LIST(params));
+    expect("a tab of an entry", &plan, PLENTY, WIDE("abcdefg 7\t8", 17));
+    plan = of(LIST(notes));
+    expect("tabs of comments", &plan, PLENTY, WIDE("--\tc\n/*\n a\tb */", 12));
 }
 
 static void known_words(expect *expect)
@@ -199,6 +232,7 @@ static void known_brackets(expect *expect)
 static void known_sheets(expect *expect)
 {
     known_queries(expect);
+    known_tabs(expect);
     known_words(expect);
     known_comments(expect);
     known_placeholders(expect);

@@ -47,7 +47,7 @@ static void put(uint8_t *sheet, size_t at, uint32_t word)
 static const char *const WORDS[] = {
     "SELECT", "from", "is  null", "limit", "case", "END", "calls", "id", "::int", "?", ":line", "$1", "-- fmt: off", "-- fmt: on", "-- note", "-- end\n",
     "/* a\n  b */",
-    "(", ")", "[", "]", ",", ";", ".", ":", " ", "\n", "\t ", "\v\f\r", "~\n\n", "\001",
+    "(", ")", "[", "]", ",", ";", ".", ":", " ", "\n", "\t ", "\v\f\r", "~\n\n", "\001", "a\tb", "ab cdefg\t\t", "\teight888\n\t9",
 };
 
 struct bodies {
@@ -108,7 +108,8 @@ static void put_token(uint8_t *sheet, size_t at, const struct bodies *b, enum mi
 static void put_head(uint8_t *sheet, const uint32_t counts[4], uint32_t mode, enum mix mix)
 {
     uint32_t block = mix == ANY ? under(60) : mix == FOLDS || one_in(2) ? 0 : 40000;
-    uint32_t options[] = {one_in(8) ? under(257) : under(9), under(3), one_in(3) ? 0 : under(3), one_in(20) ? under(256) : under(4), block};
+    uint32_t indent = one_in(8) ? TWIGMANTLE_INDENT_TABS : one_in(8) ? under(257) : under(9);
+    uint32_t options[] = {indent, under(3), one_in(3) ? 0 : under(3), one_in(20) ? under(256) : under(4), block};
     for (size_t i = 0; i < 4; i++)
         put(sheet, 4 * i, counts[i]);
     put(sheet, 4 * TWIGMANTLE_HEAD_MODE, mode);

@@ -27,7 +27,7 @@ struct twigmantle_report {
     uint64_t place;
     uint64_t length; /* of the text, in bytes */
     uint64_t lines;  /* line feeds and one more; 0 if the text is empty */
-    uint64_t width;  /* of the longest line, in bytes */
+    uint64_t width;  /* the largest column reached on any line: a tab goes to the next multiple of 8 above, every other byte is one column */
 };
 
 /* Lays out the sheet of n bytes into text, a buffer of room bytes.

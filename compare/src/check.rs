@@ -185,8 +185,15 @@ pub fn measured(text: &[u8]) -> (usize, usize) {
     if text.is_empty() {
         return (0, 0);
     }
-    let widths: Vec<usize> = text.split(|&b| b == b'\n').map(<[u8]>::len).collect();
+    let widths: Vec<usize> = text.split(|&b| b == b'\n').map(columns).collect();
     (widths.len(), widths.into_iter().max().unwrap_or(0))
+}
+
+/// Each cell but the last ends at a stop, so it starts at one and fills whole stops.
+pub fn columns(line: &[u8]) -> usize {
+    let cells: Vec<usize> = line.split(|&b| b == b'\t').map(<[u8]>::len).collect();
+    let stopped: usize = cells[..cells.len() - 1].iter().map(|cell| cell - cell % 8 + 8).sum();
+    stopped + cells[cells.len() - 1]
 }
 
 fn heights(read: &Read, model: &[Height]) -> Result<(), String> {
@@ -328,6 +335,33 @@ fn note(tally: &mut Tally, made: &Made, ample: &Trial, answer: &Answer, how: &'s
         }
         ample.rows.iter().for_each(|row| note_row(tally, sheet, row));
     }
+    if let Answer::Laid { text, width, .. } = &ample.answer {
+        note_tabs(tally, text, *width);
+    }
+}
+
+fn note_tabs(tally: &mut Tally, text: &[u8], width: usize) {
+    let lines = || text.split(|&b| b == b'\n');
+    let longest = lines().map(<[u8]>::len).max().unwrap_or(0);
+    let mut add = |met: bool, what: &'static str| {
+        if met {
+            tally.add("c tabs", what);
+        }
+    };
+    let stops =
+        |at: usize| move |line: &[u8]| line.get(at) == Some(&b'\t') && !line[..at].contains(&b'\t');
+    add(text.contains(&b'\t'), "texts with a tab");
+    add(width > longest, "wider than the longest line in bytes");
+    add(
+        lines().any(|line| columns(line) > line.len() && columns(line) < width),
+        "a line with a tab, not the widest",
+    );
+    add(
+        lines().any(|line| line.ends_with(b"\t") && columns(line) == width),
+        "a tab at the end of the widest line",
+    );
+    add(lines().any(stops(7)), "a first tab at column 7");
+    add(lines().any(stops(8)), "a first tab at column 8");
 }
 
 fn note_row(tally: &mut Tally, sheet: &Sheet, row: &Row) {

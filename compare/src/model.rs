@@ -98,13 +98,19 @@ pub fn listed(sheet: &[u8], room: usize, words: usize) -> Listed {
     Listed { answer, list: list(&rows, words) }
 }
 
+/// Width: the largest column reached on any line, a tab moving to the next multiple of 8 strictly
+/// above, every other byte by one.
 fn report(text: Vec<u8>) -> Answer {
     let mut feeds = 0;
-    let (mut width, mut run) = (0, 0);
+    let (mut width, mut column) = (0, 0);
     for &byte in &text {
         feeds += usize::from(byte == b'\n');
-        run = if byte == b'\n' { 0 } else { run + 1 };
-        width = width.max(run);
+        column = match byte {
+            b'\n' => 0,
+            b'\t' => (column / 8 + 1) * 8,
+            _ => column + 1,
+        };
+        width = width.max(column);
     }
     let lines = if text.is_empty() { 0 } else { feeds + 1 };
     Answer::Laid { text, lines, width }

@@ -6,6 +6,7 @@ mod damage;
 pub mod noise;
 pub mod query;
 mod soup;
+mod tabs;
 mod values;
 pub mod white;
 
@@ -99,6 +100,7 @@ pub enum Maker {
     Noise,
     Comments,
     Values,
+    Tabs,
 }
 
 const USUAL: [Maker; 16] = [
@@ -124,6 +126,9 @@ const USUAL: [Maker; 16] = [
 pub fn make_any(dice: &mut Dice) -> Made {
     if dice.one_in(8) {
         return make_with(dice, Maker::Values, Size::Any, Inline::Any);
+    }
+    if dice.one_in(12) {
+        return make_with(dice, Maker::Tabs, Size::Any, Inline::Any);
     }
     make_at_any(dice)
 }
@@ -167,13 +172,17 @@ pub fn make_with(dice: &mut Dice, maker: Maker, size: Size, inline: Inline) -> M
     }
     let whole = match maker {
         Maker::White if dice.one_in(4) => Maker::Comments,
-        Maker::Damaged | Maker::Flipped | Maker::White => dice.pick(&USUAL[..13]),
+        Maker::Tabs if dice.one_in(4) => dice.pick(&[Maker::Comments, Maker::Values]),
+        Maker::Damaged | Maker::Flipped | Maker::White | Maker::Tabs => dice.pick(&USUAL[..13]),
         other => other,
     };
     let mut sheet = sheet(dice, whole, size);
     inline.set(dice, &mut sheet.options);
     if maker == Maker::White {
         sheet = white::whitened(dice, sheet);
+    }
+    if maker == Maker::Tabs {
+        sheet = tabs::tabbed(dice, sheet);
     }
     let bytes = encode(dice, &sheet);
     match maker {
@@ -207,6 +216,7 @@ fn name(maker: Maker) -> &'static str {
         Maker::Noise => "noise",
         Maker::Comments => "comments",
         Maker::Values => "values",
+        Maker::Tabs => "tabs",
     }
 }
 

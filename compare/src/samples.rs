@@ -92,6 +92,13 @@ const CONSOLE: &[Piece] = &[
 ];
 
 #[rustfmt::skip]
+const TABBED: &[Piece] = &[
+    (T, "SELECT"), BLANK, (W, "note"), BLANK, (LINE_COMMENT, "--\tthe text"), FEED,
+    (T, "FROM"), BLANK, (W, "notes"), BLANK,
+    (T, "WHERE"), BLANK, (W, "call_id"), BLANK, (O, "="), BLANK, (P, "?"),
+];
+
+#[rustfmt::skip]
 const ACCENT: &[Piece] = &[
     (T, "SELECT"), BLANK, (STRING, "'Zoë'"), BLANK, (R, "AS"), BLANK, (W, "caller"),
 ];
@@ -146,6 +153,12 @@ fn samples() -> Vec<Sample> {
         ),
     ];
     samples.extend(placeholders());
+    samples.push(sample(
+        "tabs",
+        "Tabs for an indent, and one in the comment. The width counts columns, and a tab goes to the next \
+         multiple of 8: the second line has 17 bytes and is 24 wide.",
+        with(filled(of(TABBED), MODE_INDEXED, LIST), |o| o.indent = 256),
+    ));
     samples.push(sample(
         "console",
         "For the console: one line, but a line comment ends its own, so all of it runs. With `inline` 1 \

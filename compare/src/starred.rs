@@ -3,7 +3,7 @@
 
 mod rows;
 
-use crate::check::measured;
+use crate::check::{columns, measured};
 use crate::model::{self, Answer, Refusal};
 use crate::oracle::{self, Panic};
 use crate::sheet::*;
@@ -21,7 +21,7 @@ struct Case {
 }
 
 fn text(lines: &[&str]) -> Answer {
-    let width = lines.iter().map(|line| line.len()).max().unwrap_or(0);
+    let width = lines.iter().map(|line| columns(line.as_bytes())).max().unwrap_or(0);
     Answer::Laid { text: lines.join("\n").into(), lines: lines.len(), width }
 }
 
@@ -324,10 +324,48 @@ fn comment_sheets() -> Vec<Case> {
     [closing_sheets(), held_sheets(), vec![past]].concat()
 }
 
+/// Width by columns: tabs of values, of an entry, of comments and of the indent. The numbers are
+/// written out, and not worked out here.
+fn tab_sheets() -> Vec<Case> {
+    let at = |name, sheet, wanted| Case { name, sheet, room: ROOM, wanted };
+    let word = |value| of(&[(WORD, value)]);
+    let tabs = |sheet| with(sheet, |o| o.indent = 256);
+    let bracket = [(TOP_LEVEL, "FROM"), (WHITESPACE, " "), (OPEN, "("), (WORD, "a"), (CLOSE, ")")];
+    let nested = with(tabs(of(&bracket)), |o| o.block = 0);
+    let nested_at = ["FROM", "\t(", "\t\ta", "\t)"];
+    let entry = indexed(of(&[(WORD, "abcdefg"), (PLACEHOLDER, "?")]), &["7\t8"]);
+    let note = of(&[(LINE_COMMENT, "--\tc"), (WORD, "a")]);
+    let block = of(&[(BLOCK_COMMENT, "/*\n\ta\tb */")]);
+    let off =
+        [(LINE_COMMENT, "-- fmt: off"), (WHITESPACE, " "), (WORD, "ab\t"), (WHITESPACE, "\tc")];
+    vec![
+        at("a tab", word("a\tb"), counted(&["a\tb"], 3, 1, 9)),
+        at("seven letters and a tab", word("abcdefg\tb"), counted(&["abcdefg\tb"], 9, 1, 9)),
+        at("eight letters and a tab", word("abcdefgh\tb"), counted(&["abcdefgh\tb"], 10, 1, 17)),
+        at("several tabs", word("a\tb\t\tc"), counted(&["a\tb\t\tc"], 6, 1, 25)),
+        at("at a line's end", word("a\t\nbcd"), counted(&["a\t", "bcd"], 6, 2, 8)),
+        at(
+            "at column 8 of a line's end",
+            word("abcdefgh\t\nb"),
+            counted(&["abcdefgh\t", "b"], 11, 2, 16),
+        ),
+        at("the column starts anew", word("abcdef\na\tb"), counted(&["abcdef", "a\tb"], 10, 2, 9)),
+        at("a carriage return is a column", word("ab\r\tc\rd"), counted(&["ab\r\tc\rd"], 7, 1, 11)),
+        at("cut at the end", word("a\t"), counted(&["a"], 1, 1, 1)),
+        at("an indent", tabs(notes()), counted(&["SELECT", "\tid", "FROM", "\tcalls"], 22, 4, 13)),
+        at("an indent of two", nested, counted(&nested_at, 14, 4, 17)),
+        at("an entry", entry, counted(&["abcdefg 7\t8"], 11, 1, 17)),
+        at("a line comment", note, counted(&["--\tc", "a"], 6, 2, 9)),
+        at("a block comment", block, counted(&["/*", " a\tb */"], 10, 2, 12)),
+        at("copied", of(&off), counted(&["ab\t\tc"], 5, 1, 17)),
+    ]
+}
+
 /// Every sheet of this file with its buffer.
 pub fn sheets() -> Vec<(Vec<u8>, usize)> {
     let parts = [plain_sheets(), placeholder_sheets(), bracket_sheets(), word_sheets()];
-    let cases = parts.into_iter().chain(further_parts()).chain([comment_sheets()]).flatten();
+    let later = [comment_sheets(), tab_sheets()];
+    let cases = parts.into_iter().chain(further_parts()).chain(later).flatten();
     cases.map(|case| (case.sheet.encode(&mut in_turn), case.room)).collect()
 }
 
@@ -340,8 +378,9 @@ pub fn run() -> bool {
     let sheets = count(parts.into_iter().flatten().collect(), "document 01's sheets");
     let further = count(further_parts().into_iter().flatten().collect(), "further sheets");
     let comments = count(comment_sheets(), "line comments at word 7 = 0, 1, 2");
+    let tabs = count(tab_sheets(), "tabs");
     let rows = rows::run();
-    sheets && further && comments && rows && head()
+    sheets && further && comments && tabs && rows && head()
 }
 
 /// The call's default head, where it is linked.

@@ -83,6 +83,11 @@ pub fn row_at_two(dice: &mut Dice) -> Row {
     until_some(|| attempt(dice, wanted, Inline::Comments))
 }
 
+/// A text, most with tabs.
+fn row_with_tabs(dice: &mut Dice) -> Row {
+    until_some(|| made(dice, Maker::Tabs, Wanted::Text, Inline::Rusts))
+}
+
 fn until_some<T>(mut attempt: impl FnMut() -> Option<T>) -> T {
     loop {
         if let Some(made) = attempt() {
@@ -104,6 +109,10 @@ fn attempt(dice: &mut Dice, wanted: Wanted, inline: Inline) -> Option<Row> {
         Wanted::Below => Folds,
         Wanted::Damaged => dice.pick(&[Damaged, Damaged, Damaged, Flipped]),
     };
+    made(dice, maker, wanted, inline)
+}
+
+fn made(dice: &mut Dice, maker: Maker, wanted: Wanted, inline: Inline) -> Option<Row> {
     let Made { bytes, .. } = random::make_with(dice, maker, Size::Table, inline);
     let need = peak(&model::trial(&bytes, model::AMPLE).heights);
     let room = match wanted {
@@ -136,7 +145,11 @@ fn fits(dice: &mut Dice, answer: &Answer, wanted: Wanted) -> bool {
 
 pub fn table(n: usize, seed: u64, first: usize) -> bool {
     let mut dice = Dice::new(seed, 0);
-    let one = |i| if i % 3 == 2 { row_at_two(&mut dice) } else { row(&mut dice) };
+    let one = |i| match i % 6 {
+        2 | 5 => row_at_two(&mut dice),
+        3 => row_with_tabs(&mut dice),
+        _ => row(&mut dice),
+    };
     let rows: Vec<Row> = (0..n).map(one).collect();
     let mut out = BufWriter::new(io::stdout().lock());
     let done = opening(&mut out, n, seed).and_then(|()| {
@@ -149,8 +162,8 @@ pub fn table(n: usize, seed: u64, first: usize) -> bool {
 fn opening(out: &mut impl Write, n: usize, seed: u64) -> io::Result<()> {
     writeln!(
         out,
-        "-- Random sheets with the Rust's answers, every third at word 7 = 2 with the model's: \
-         {n} rows, seed {seed}. Made by compare/; not kept.
+        "-- Random sheets with the Rust's answers, every third at word 7 = 2 with the model's, every sixth with \
+         tabs: {n} rows, seed {seed}. Made by compare/; not kept.
 use mathlib.Core.Path.{{_≡_, refl}}
 use mathlib.Core.List.{{List, [], _∷_, map}}
 use Rattle.rules.specs.Bytes.{{bytes}}

@@ -97,6 +97,7 @@ fn at_depth(options: Options, depth: usize, turn: &[[u32; 5]], text: &str, fill:
 pub fn sheets() -> Vec<(String, Costly)> {
     let plain = Options::default();
     let wide = Options { indent: 255, block: 0, ..plain };
+    let tabbed = Options { indent: 256, ..wide };
     let flat = Options { block: u32::MAX, ..plain };
     let mut sheets = vec![
         ("names, last byte".into(), names(LONG, LONG - 1)),
@@ -150,6 +151,7 @@ pub fn sheets() -> Vec<(String, Costly)> {
             turns(Options { lines: 255, ..plain }, &[token(OPERATOR, 7, 1)], 1024, text, b' '),
         ),
         ("lists at depth".into(), at_depth(wide, 128, &[word, comma], text, b' ')),
+        ("lists at depth, by tabs".into(), at_depth(tabbed, 128, &[word, comma], text, b' ')),
         ("comments at depth".into(), at_depth(wide, 128, &[comment], text, b' ')),
         ("words at depth".into(), at_depth(wide, 127, &[token(NEWLINE, 6, 1)], text, b' ')),
         (
@@ -186,6 +188,7 @@ pub fn sheets() -> Vec<(String, Costly)> {
     let mut narrow = turns(plain, &after, 1023, text, b'\n');
     narrow.body[10..].iter_mut().step_by(2).for_each(|byte| *byte = b'a');
     sheets.push(("lines of one byte".into(), narrow));
+    sheets.push(("tabs after words".into(), turns(plain, &after, 1023, text, b'\t')));
     let lines = Costly {
         body: b"\n x".iter().copied().cycle().take(LONG as usize).collect(),
         tokens: vec![token(BLOCK_COMMENT, 0, LONG); 64],

@@ -28,19 +28,20 @@ told-by all p true h =
     let o = or-add-and all 1 in
     rw (or-true p) (ne-eqb (bitOr all 1) 0 (λ z. let k = and-le-l all 1 in absurd (omega arith)))
 
-has-one : (b x : ℕ) (v : List ℕ) → has b (v ++ (x ∷ [])) ≡ (has b v || eqb x b)
-has-one b x [] = or-false (eqb x b)
-has-one b x (y ∷ ys) = go (eqb y b) refl (has-one b x ys)
+pub has-both : (a b : ℕ) (v w : List ℕ) → has a b (v ++ w) ≡ (has a b v || has a b w)
+has-both a b [] w = refl
+has-both a b (y ∷ ys) w = go (eqb y a || eqb y b) (has-both a b ys w)
   where
-    go : (c : Bool) → eqb y b ≡ c → has b (ys ++ (x ∷ [])) ≡ (has b ys || eqb x b) → has b ((y ∷ ys) ++ (x ∷ [])) ≡ (has b (y ∷ ys) || eqb x b)
-    go true e f = rw e
-    go false e f = rw e f
+    go : (c : Bool) → has a b (ys ++ w) ≡ (has a b ys || has a b w) → (c || has a b (ys ++ w)) ≡ ((c || has a b ys) || has a b w)
+    go true f = refl
+    go false f = f
 
-pub found-more : (s : List ℕ) (start b i all m : ℕ) → start + i < length s → eqb all 0 ≡ not (has b (part s start i)) → m ≡ (if eqb (getD s (start + i) 0) b then 1 else 0)
-    → eqb (bitOr all m) 0 ≡ not (has b (part s start (i + 1)))
-found-more s start b i all m h e f =
+pub found-more : (s : List ℕ) (start a b i all m : ℕ) → start + i < length s → eqb all 0 ≡ not (has a b (part s start i))
+    → m ≡ (if eqb (getD s (start + i) 0) a || eqb (getD s (start + i) 0) b then 1 else 0) → eqb (bitOr all m) 0 ≡ not (has a b (part s start (i + 1)))
+found-more s start a b i all m h e f =
     let x = getD s (start + i) 0 in
-    rw (part-suc s start i h, has-one b x (part s start i), f) (told-by all (has b (part s start i)) (eqb x b) e)
+    let k : has a b (part s start i ++ (x ∷ [])) ≡ (has a b (part s start i) || (eqb x a || eqb x b)) = has-both a b (part s start i) (x ∷ []) ∙ rw (or-false (eqb x a || eqb x b)) in
+    rw (part-suc s start i h, k, f) (told-by all (has a b (part s start i)) (eqb x a || eqb x b) e)
 
 pub found-all : (all : ℕ) (p : Bool) → eqb all 0 ≡ not p → not (eqb all 0) ≡ p
 found-all all true e = rw e
@@ -48,11 +49,11 @@ found-all all false e = rw e
 
 -- ---- the bytes before it
 
-before-none : (b : ℕ) (v w : List ℕ) → has b v ≡ false → before b (v ++ w) ≡ length v + before b w
+before-none : (b : ℕ) (v w : List ℕ) → has b b v ≡ false → before b (v ++ w) ≡ length v + before b w
 before-none b [] w h = omega arith
 before-none b (x ∷ xs) w h = go (eqb x b) refl (before-none b xs w)
   where
-    go : (c : Bool) → eqb x b ≡ c → (has b xs ≡ false → before b (xs ++ w) ≡ length xs + before b w) → before b ((x ∷ xs) ++ w) ≡ length (x ∷ xs) + before b w
+    go : (c : Bool) → eqb x b ≡ c → (has b b xs ≡ false → before b (xs ++ w) ≡ length xs + before b w) → before b ((x ∷ xs) ++ w) ≡ length (x ∷ xs) + before b w
     go true e g = absurd (let f : true ≡ false = rw e at h in let z : _≡_ {A = ℕ} 0 1 = cc in omega arith)
     go false e g =
         let f = g (rw e at h) in
@@ -72,7 +73,7 @@ before-next b (x ∷ xs) h = go (eqb x b) refl (before-next b xs)
         rw (k, m) (f (omega arith))
 
 module _ (s : List ℕ) (start n b i : ℕ) (h : start + n ≤ length s) (e : i + before b (drop i (part s start n)) ≡ before b (part s start n)) where
-  pub by-run-none : (k : ℕ) → i + k ≤ n → has b (part s (start + i) k) ≡ false → i + k + before b (drop (i + k) (part s start n)) ≡ before b (part s start n)
+  pub by-run-none : (k : ℕ) → i + k ≤ n → has b b (part s (start + i) k) ≡ false → i + k + before b (drop (i + k) (part s start n)) ≡ before b (part s start n)
   by-run-none k c f =
       let m : ℕ = n - (i + k) in
       let a : n - i ≡ k + m = omega arith in

@@ -1,5 +1,5 @@
 -- A part of a list of bytes.
-use mathlib.Core.Bool.{Bool}
+use mathlib.Core.Bool.{Bool, _||_}
 use mathlib.Core.List.{List, [], _∷_}
 use Prim.Native.Nat.{ℕ, suc, _+_, _*_, _<_}
 use lib.Dec.{eqb}
@@ -19,8 +19,9 @@ abbrev pub Bytes : List ℕ → Type 0
 Bytes [] = Unit {0}
 Bytes (x ∷ xs) = (x < 256) × Bytes xs
 
-abbrev pub has : ℕ → List ℕ → Bool
-has b v = anyOf (λ x. eqb x b) v
+-- one of two bytes is there
+abbrev pub has : ℕ → ℕ → List ℕ → Bool
+has a b v = anyOf (λ x. eqb x a || eqb x b) v
 
 -- how many bytes stand before the first b
 abbrev pub before : ℕ → List ℕ → ℕ

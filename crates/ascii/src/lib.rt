@@ -1,6 +1,7 @@
 // What the layout asks of bytes: whether one is blank or white, one in another case, and whether two parts are the same.
 use rules::Case;
 ghost use mathlib.Core.Path.{_≡_};
+ghost use mathlib.Core.Bool.{_||_};
 ghost use Prim.Native.Nat.{_+_, _≤_, _<_};
 ghost use lib.Dec.{eqb};
 ghost use lib.ListN.{length};
@@ -186,21 +187,24 @@ pub fn same_bytes(src: &[u8], start: usize, n: usize, other: &[u8], from: usize,
 
 // ---- the first byte of a kind
 
-fn equal(a: u8, b: u8) -> u8
-    ensures { λ r. ⌜ r ≡ (if eqb a b then 1 else 0) ⌝ }
+fn either(x: u8, a: u8, b: u8) -> u8
+    ensures { λ r. ⌜ r ≡ (if eqb x a || eqb x b then 1 else 0) ⌝ }
 {
-    if a == b { 1 } else { 0 }
+    if x == a {
+        return 1;
+    }
+    if x == b { 1 } else { 0 }
 }
 
-// No branch for each byte, as above.
-fn in_run(src: &[u8], start: usize, n: usize, b: u8) -> bool
+// Whether one of two bytes stands in a run. No branch for each byte, as above.
+pub fn in_run(src: &[u8], start: usize, n: usize, a: u8, b: u8) -> bool
     requires { ⌜ start + n ≤ length (now src) ⌝ }
-    ensures { λ r. ⌜ r ≡ has b (part (now (src .entry)) start n) ⌝ }
+    ensures { λ r. ⌜ r ≡ has a b (part (now (src .entry)) start n) ⌝ }
 {
     let mut all: u8 = 0;
     let mut i = 0;
     while i < n {
-        all |= equal(src[start + i], b);
+        all |= either(src[start + i], a, b);
         i += 1;
     }
     all != 0
@@ -213,7 +217,7 @@ pub fn find(src: &[u8], start: usize, n: usize, b: u8) -> usize
 {
     let mut i = 0;
     while 16 <= n - i {
-        if in_run(src, start + i, 16, b) {
+        if in_run(src, start + i, 16, b, b) {
             break;
         }
         i += 16;

@@ -2,7 +2,7 @@
 use mathlib.Core.Path.{_≡_, sym, ap, _∙_}
 use mathlib.Core.Bool.{Bool, true, false}
 use mathlib.Core.List.{List, [], _∷_, map}
-use Prim.Native.Nat.{ℕ, suc, _+_, _-_, _≤_, _<_}
+use Prim.Native.Nat.{ℕ, suc, _+_, _-_, _^_, _≤_, _<_}
 use native.Mathlib.Omega.{arith}
 use lib.ListN.{length, take, drop}
 use Rattle.rules.specs.declared.TokenKind.{TokenKind}
@@ -10,6 +10,8 @@ use Rattle.rules.specs.declared.Turn.{Turn}
 use Rattle.rules.specs.declared.Turn.the-variants as turn
 use Rattle.rules.specs.declared.Report.{Report}
 use Rattle.rules.specs.Text.{fits, refused, mark, bytesIn, change, isWhite, trimStart, trimEnd, trimmed, lines, width}
+use Rattle.rules.proofs.Short.{Short, sheet-short}
+use Rattle.around.specs.Readable.{sheeted-readable}
 use Rattle.rules.specs.Base.{if_then_else_, _▹_}
 use Rattle.rules.specs.Rows.{Row, clip, shift, trimRow}
 use Rattle.rows.specs.Listing.{rowsIn, listing}
@@ -197,3 +199,14 @@ module _ (s : List ℕ) (x : Context) (cap i : ℕ) (st : Code) (w : CodeSwitch)
 
   pub run-fills : q ≡ bufferOf (length d) (finish i (textOf (st .text) d)) → q ≡ bufferOf cap (answerIn s x cap)
   run-fills e = e ∙ rw (run .room, by-end s x cap i st w d (answerIn s x cap) over (run .left))
+
+-- the text is short: the width fits in 64 bits
+short-end : (i : ℕ) (t : CodeText) (d : List ℕ) → t .fault ≡ 0 → Short (finish i (textOf t d)) → length (trimmed (bytesIn (textOf t d))) < 2 ^ 60
+unfolding finish unlessRefused report
+short-end i t d z h = rw (text-fits t d z) (rw (text-fits t d z) at h)
+
+pub run-short : (s : List ℕ) (x : Context) (cap i : ℕ) (st : Code) (w : CodeSwitch) (d : List ℕ) → Known s x → Running s x cap i st w d → x .counts .tokens ≤ i → length (trimmed (bytesIn (textOf (st .text) d))) < 2 ^ 60
+run-short s x cap i st w d known run over =
+    let h = known .sheeted in
+    let a : Short (answerIn s x cap) = sheet-short s (x .counts) (sheeted-readable s (x .counts) h .short) cap (h .few .tokens) (h .options .indent) (h .options .lines) in
+    short-end i (st .text) d (run .fine) (rw (← by-end s x cap i st w d (answerIn s x cap) over (run .left)) at a)

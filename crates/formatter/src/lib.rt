@@ -2,9 +2,9 @@
 ghost use mathlib.Core.Path.{_≡_};
 ghost use mathlib.Core.Bool.{true, false};
 ghost use mathlib.Core.List.{map};
-ghost use Prim.Native.Nat.{ℕ, _*_, _≤_, _<_};
+ghost use Prim.Native.Nat.{ℕ, _*_, _^_, _≤_, _<_};
 ghost use lib.ListN.{length};
-ghost use Rattle.rules.specs.Text.{bytesIn};
+ghost use Rattle.rules.specs.Text.{bytesIn, trimmed};
 ghost use Rattle.rules.specs.Sheet.{tokensOf};
 ghost use Rattle.rules.specs.Rows.{trimRow, placeholders};
 ghost use Rattle.rows.specs.Listing.{rowsIn, listing, Words};
@@ -125,6 +125,7 @@ fn begin(query: &mut [u8]) -> State
 fn finish(query: &mut [u8], rows: &mut [u32], count: usize, t: Text) -> Report
     requires { ⌜ Held t (now query) ⌝ }
     requires { ⌜ t .fault ≡ 0 ⌝ }
+    requires { ⌜ length (trimmed (bytesIn (textOf t (now query)))) < 2 ^ 60 ⌝ }
     requires { ⌜ Words (now rows) count ⌝ }
     ensures { λ r. ⌜ ((i : ℕ) → r ≡ reportOf (finishOf i (textOf t (now (query .entry))))) ⌝ }
     ensures { λ r. ⌜ ((i : ℕ) → now (query .exit) ≡ bufferOf (length (now (query .entry))) (finishOf i (textOf t (now (query .entry))))) ⌝ }

@@ -1,2 +1,4 @@
 pub mod TrimLaws
-pub mod SizeLaws
+pub mod MeasureLaws
+pub mod LongestLaws
+pub mod ReportLaws

@@ -1,4 +1,7 @@
 pub mod Strip
+pub mod Columns
+pub mod Growth
+pub mod Short
 pub mod Own
 pub mod Kept
 pub mod Adds

@@ -18,6 +18,7 @@ pub mod Computed
 pub mod Encode
 pub mod Sheets
 pub mod Comments
+pub mod Tabs
 pub mod Pointing
 pub mod Due
 pub mod Shown

@@ -1,7 +1,7 @@
 -- Rules on bytes: white bytes, cutting, casing, joining blanks, comments; the working text, which a refusal replaces; lines and width.
 use mathlib.Core.Bool.{Bool, true, false, _&&_, _||_}
 use mathlib.Core.List.{List, [], _∷_, _++_, map}
-use Prim.Native.Nat.{ℕ, suc, _+_, _-_, _*_, min, max}
+use Prim.Native.Nat.{ℕ, suc, _+_, _-_, _*_, _/_, min, max}
 use lib.Dec.{eqb, leb}
 use lib.ListN.{length, take, drop, replicate}
 use Rattle.rules.specs.declared.Case.{Case}
@@ -103,10 +103,14 @@ abbrev pub lines : List ℕ → ℕ
 lines [] = 0
 lines (x ∷ xs) = suc (lineFeeds (x ∷ xs))
 
--- at is the length of the line so far, best that of the longest line before it
+-- the column after a byte: a line feed starts a line, a tab goes to the next multiple of 8, every other byte goes one on
+abbrev pub columnAfter : ℕ → ℕ → ℕ
+columnAfter at x = if eqb x 10 then 0 else if eqb x 9 then (at / 8 + 1) * 8 else suc at
+
+-- the largest column reached: at is the column before the bytes, best the largest one so far
 abbrev pub widthFrom : ℕ → ℕ → List ℕ → ℕ
-widthFrom at best [] = max at best
-widthFrom at best (x ∷ xs) = widthFrom (if eqb x 10 then 0 else suc at) (if eqb x 10 then max at best else best) xs
+widthFrom at best [] = best
+widthFrom at best (x ∷ xs) = widthFrom (columnAfter at x) (max (columnAfter at x) best) xs
 
 abbrev pub width : List ℕ → ℕ
 width v = widthFrom 0 0 v

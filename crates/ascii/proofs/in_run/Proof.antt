@@ -10,22 +10,22 @@ use Rattle.ascii.proofs.in_run.Statement.{statement}
 use Rattle.ascii.proofs.in_run.Tie as tie
 
 abbrev Inv-loop : tie.InvT-loop
-Inv-loop src start n b all₀ i₀ all i = (i ≤ n) × (eqb all 0 ≡ not (has b (part src start i)))
+Inv-loop src start n a b all₀ i₀ all i = (i ≤ n) × (eqb all 0 ≡ not (has a b (part src start i)))
 
 abbrev μ-loop : tie.MeasureT-loop
-μ-loop src start n b all₀ i₀ all i = n - i
+μ-loop src start n a b all₀ i₀ all i = n - i
 
 loop-holds : tie.Need-loop-holds Inv-loop μ-loop
 loop-holds c = (omega arith, refl)
 
-add-equal : tie.Need-add-equal Inv-loop μ-loop
-add-equal c = search needs
+add-either : tie.Need-add-either Inv-loop μ-loop
+add-either c = search needs
 
-shared-slice-read-equal : tie.Need-shared-slice-read-equal Inv-loop μ-loop
-shared-slice-read-equal c = search needs
+shared-slice-read-either : tie.Need-shared-slice-read-either Inv-loop μ-loop
+shared-slice-read-either c = search needs
 
-equal-requires : tie.Need-equal-requires Inv-loop μ-loop
-equal-requires c κs = search needs
+either-requires : tie.Need-either-requires Inv-loop μ-loop
+either-requires c κs = search needs
 
 add-i : tie.Need-add-i Inv-loop μ-loop
 add-i c = search needs
@@ -37,7 +37,7 @@ loop-again : tie.Need-loop-again Inv-loop μ-loop
 loop-again c =
     let l = c .before .before .before .loop in
     let a = c .before .before .before .before .before .args in
-    (search needs, found-more (a .src .now) (a .start) (a .b) (l .i) (l .all) _ (search needs) (l .inv .1) (c .equal .ensures))
+    (search needs, found-more (a .src .now) (a .start) (a .a) (a .b) (l .i) (l .all) _ (search needs) (l .inv .1) (c .either .ensures))
 
 returns : tie.Need-returns Inv-loop μ-loop
 returns c =
@@ -52,9 +52,9 @@ in-run-spec =
     Inv-loop
     μ-loop
     loop-holds
-    add-equal
-    shared-slice-read-equal
-    equal-requires
+    add-either
+    shared-slice-read-either
+    either-requires
     add-i
     loop-less
     loop-again

@@ -13,7 +13,7 @@ use Rattle.state.proofs.Laws.{value-inside, known-readable}
 use Rattle.fmt_switch.specs.Of.{switchOf}
 use Rattle.around.specs.Run.{turnAt}
 use Rattle.formatter.specs.Run.{kindIn, Stepped}
-use Rattle.formatter.proofs.Laws.{turn-is, by-step, Running, run-starts, run-ready, run-goes, run-refused, run-zeros, run-reports, run-fills}
+use Rattle.formatter.proofs.Laws.{turn-is, by-step, Running, run-starts, run-ready, run-goes, run-refused, run-zeros, run-reports, run-fills, run-short}
 use Rattle.rules.specs.Rows.{laysOut}
 use Rattle.text.specs.Held.{marked}
 use Rattle.state.specs.Of.{withText}
@@ -298,7 +298,10 @@ loop-again c =
     )
 
 finish-requires : tie.Need-finish-requires Inv-loop μ-loop
-finish-requires c κs = let l = c .before .before .before .before .loop in (l .inv .1 .steady .held, (l .inv .1 .fine, l .inv .2 .listed .listed))
+finish-requires c κs =
+    let l = c .before .before .before .before .loop in
+    let start = c .before .before .before .before .before .before .before .before .before .before .before .before .before .before .before .before .before .before in
+    (l .inv .1 .steady .held, (l .inv .1 .fine, (run-short (now (start .args .sheet)) (start .args .x) _ (l .i) (l .s) (l .switch) _ (start .pre .0) (l .inv .1) (c .before .before .before .loop-test .left), l .inv .2 .listed .listed)))
 
 same-length-3 : tie.Need-same-length-3 Inv-loop μ-loop
 same-length-3 c = let l = c .before .before .before .before .before .before .before .before .before .loop in search (needs, l .inv .0)

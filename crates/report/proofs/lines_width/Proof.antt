@@ -1,107 +1,25 @@
+use borrow.Author.Needs.{needs}
+use Rattle.report.proofs.MeasureLaws.{by-no-size, from-start}
 use Rattle.report.proofs.lines_width.Statement.{statement}
 use Rattle.report.proofs.lines_width.Tie as tie
-use borrow.Author.Needs.{needs}
-use mathlib.Core.Path.{_≡_}
-use Prim.Native.Nat.{_+_, _-_, _≤_}
-use lib.ListN.{take, drop}
-use Rattle.rules.specs.Text.{lineFeeds, widthFrom, width}
-use Rattle.report.proofs.SizeLaws.{by-line-fed, by-line-on, by-width-fed, by-width-on, by-long-lines, by-long-width, by-size, by-no-size}
 
-abbrev Inv-loop : tie.InvT-loop
-Inv-loop text len lines₀ best₀ from₀ i₀ lines best from i =
-    (i ≤ len) × (lines ≤ i + 1) × (from ≤ i) × (lines + lineFeeds (drop i (take len text)) ≡ lineFeeds (take len text) + 1)
-    × (widthFrom (i - from) best (drop i (take len text)) ≡ width (take len text))
-
-abbrev μ-loop : tie.MeasureT-loop
-μ-loop text len lines₀ best₀ from₀ i₀ lines best from i = len - i
-
-returns : tie.Need-returns Inv-loop μ-loop
+returns : tie.Need-returns
 returns c = search (needs, by-no-size)
 
-loop-holds : tie.Need-loop-holds Inv-loop μ-loop
-loop-holds c = search needs
+in-run-requires : tie.Need-in-run-requires
+in-run-requires c κs = search needs
 
-shared-slice-read-if2 : tie.Need-shared-slice-read-if2 Inv-loop μ-loop
-shared-slice-read-if2 c = search needs
+by-columns-requires : tie.Need-by-columns-requires
+by-columns-requires c κs = search needs
 
-add-i : tie.Need-add-i Inv-loop μ-loop
-add-i c = search needs
+returns-2 : tie.Need-returns-2
+returns-2 c = search needs
 
-sub-if3 : tie.Need-sub-if3 Inv-loop μ-loop
-sub-if3 c = search needs
+by-bytes-requires : tie.Need-by-bytes-requires
+by-bytes-requires c κs = search (needs, from-start)
 
-loop-less : tie.Need-loop-less Inv-loop μ-loop
-loop-less c = search needs
-
-loop-again : tie.Need-loop-again Inv-loop μ-loop
-loop-again c = search (needs, by-line-on, by-width-on)
-
-sub-find : tie.Need-sub-find Inv-loop μ-loop
-sub-find c = search needs
-
-find-requires : tie.Need-find-requires Inv-loop μ-loop
-find-requires c κs = search needs
-
-add-i-2 : tie.Need-add-i-2 Inv-loop μ-loop
-add-i-2 c = search needs
-
-loop-less-2 : tie.Need-loop-less-2 Inv-loop μ-loop
-loop-less-2 c = search needs
-
-loop-again-2 : tie.Need-loop-again-2 Inv-loop μ-loop
-loop-again-2 c = search (needs, by-long-lines, by-long-width)
-
-add-lines : tie.Need-add-lines Inv-loop μ-loop
-add-lines c = search needs
-
-sub-larger : tie.Need-sub-larger Inv-loop μ-loop
-sub-larger c = search needs
-
-larger-requires : tie.Need-larger-requires Inv-loop μ-loop
-larger-requires c κs = search needs
-
-add-i-3 : tie.Need-add-i-3 Inv-loop μ-loop
-add-i-3 c = search needs
-
-loop-less-3 : tie.Need-loop-less-3 Inv-loop μ-loop
-loop-less-3 c = search needs
-
-loop-again-3 : tie.Need-loop-again-3 Inv-loop μ-loop
-loop-again-3 c = search (needs, by-line-fed, by-width-fed)
-
-sub-larger-2 : tie.Need-sub-larger-2 Inv-loop μ-loop
-sub-larger-2 c = search needs
-
-larger-requires-2 : tie.Need-larger-requires-2 Inv-loop μ-loop
-larger-requires-2 c κs = search needs
-
-returns-2 : tie.Need-returns-2 Inv-loop μ-loop
-returns-2 c = search (needs, by-size)
+returns-3 : tie.Need-returns-3
+returns-3 c = search needs
 
 pub lines-width-spec : {M : Type 1} → statement M
-lines-width-spec =
-    tie.close
-    (tie.spec
-    Inv-loop
-    μ-loop
-    returns
-    loop-holds
-    shared-slice-read-if2
-    add-i
-    sub-if3
-    loop-less
-    loop-again
-    sub-find
-    find-requires
-    add-i-2
-    loop-less-2
-    loop-again-2
-    add-lines
-    sub-larger
-    larger-requires
-    add-i-3
-    loop-less-3
-    loop-again-3
-    sub-larger-2
-    larger-requires-2
-    returns-2)
+lines-width-spec = tie.close (tie.spec returns in-run-requires by-columns-requires returns-2 by-bytes-requires returns-3)

@@ -1,0 +1,68 @@
+use mathlib.Core.Path.{_≡_}
+use Prim.Native.Nat.{_+_, _-_, _*_, _≤_}
+use lib.ListN.{drop}
+use borrow.Author.Needs.{needs}
+use Rattle.ascii.specs.Part.{part}
+use Rattle.report.specs.Measured.{measure}
+use Rattle.report.proofs.MeasureLaws.{by-byte, by-byte-column, by-bytes}
+use Rattle.report.proofs.measured.Statement.{statement}
+use Rattle.report.proofs.measured.Tie as tie
+
+abbrev Inv-loop : tie.InvT-loop
+Inv-loop text start n lines₀ at₀ best₀ i₀ lines at best i =
+    (i ≤ n) × (lines ≤ lines₀ + i) × (at ≤ at₀ + 8 * i)
+    × (measure (record { lines = lines; at = at; best = best }) (drop i (part text start n)) ≡ measure (record { lines = lines₀; at = at₀; best = best₀ }) (part text start n))
+
+abbrev μ-loop : tie.MeasureT-loop
+μ-loop text start n lines₀ at₀ best₀ i₀ lines at best i = n - i
+
+loop-holds : tie.Need-loop-holds Inv-loop μ-loop
+loop-holds c = search needs
+
+add-b : tie.Need-add-b Inv-loop μ-loop
+add-b c = search needs
+
+shared-slice-read-b : tie.Need-shared-slice-read-b Inv-loop μ-loop
+shared-slice-read-b c = search needs
+
+feeds-requires : tie.Need-feeds-requires Inv-loop μ-loop
+feeds-requires c κs = search needs
+
+add-lines : tie.Need-add-lines Inv-loop μ-loop
+add-lines c = search needs
+
+column-after-requires : tie.Need-column-after-requires Inv-loop μ-loop
+column-after-requires c κs = search needs
+
+larger-requires : tie.Need-larger-requires Inv-loop μ-loop
+larger-requires c κs = search needs
+
+add-i : tie.Need-add-i Inv-loop μ-loop
+add-i c = search needs
+
+loop-less : tie.Need-loop-less Inv-loop μ-loop
+loop-less c = search needs
+
+loop-again : tie.Need-loop-again Inv-loop μ-loop
+loop-again c = search (needs, by-byte, by-byte-column)
+
+returns : tie.Need-returns Inv-loop μ-loop
+returns c = search (needs, by-bytes)
+
+pub measured-spec : {M : Type 1} → statement M
+measured-spec =
+    tie.close
+    (tie.spec
+    Inv-loop
+    μ-loop
+    loop-holds
+    add-b
+    shared-slice-read-b
+    feeds-requires
+    add-lines
+    column-after-requires
+    larger-requires
+    add-i
+    loop-less
+    loop-again
+    returns)
