@@ -1,18 +1,18 @@
 -- The run over the tokens, step by step. Assumes nothing.
 use mathlib.Core.Path.{_≡_, sym, ap, _∙_}
-use mathlib.Core.Bool.{Bool, true, false}
-use mathlib.Core.List.{List, [], _∷_, map}
-use Prim.Native.Nat.{ℕ, suc, _+_, _-_, _^_, _≤_, _<_}
+use mathlib.Core.List.{List, [], map}
+use Prim.Native.Nat.{ℕ, _+_, _-_, _^_, _≤_, _<_}
 use native.Mathlib.Omega.{arith}
 use lib.ListN.{length, take, drop}
 use Rattle.rules.specs.declared.TokenKind.{TokenKind}
 use Rattle.rules.specs.declared.Turn.{Turn}
 use Rattle.rules.specs.declared.Turn.the-variants as turn
 use Rattle.rules.specs.declared.Report.{Report}
-use Rattle.rules.specs.Text.{fits, refused, mark, bytesIn, change, isWhite, trimStart, trimEnd, trimmed, lines, width}
+use Rattle.rules.specs.Text.{fits, refused, mark, bytesIn, change, isWhite, trimEnd, trimmed, lines, width}
 use Rattle.rules.proofs.Short.{Short, sheet-short}
+use Rattle.rules.proofs.Growth.{length-trimStart}
 use Rattle.around.specs.Readable.{sheeted-readable}
-use Rattle.rules.specs.Base.{if_then_else_, _▹_}
+use Rattle.rules.specs.Base.{_▹_}
 use Rattle.rules.specs.Rows.{Row, clip, shift, trimRow}
 use Rattle.rows.specs.Listing.{rowsIn, listing}
 use Rattle.rules.specs.Sheet.{tokenOf}
@@ -84,14 +84,6 @@ by-report d t i f z e = rw (e, text-fits t d z)
 pub by-buffer : (d q : List ℕ) (t : CodeText) (i : ℕ) → t .fault ≡ 0 → q ≡ bytesOf (length d) (change trimmed (textOf t d)) → q ≡ bufferOf (length d) (finish i (textOf t d))
 unfolding bytesOf bufferOf finish unlessRefused report
 by-buffer d q t i z e = rw (text-fits t d z) (e ∙ rw (text-fits t d z))
-
-length-trimStart : (p : ℕ → Bool) (v : List ℕ) → length (trimStart p v) ≤ length v
-length-trimStart p [] = omega arith
-length-trimStart p (y ∷ ys) = go (p y) (length-trimStart p ys)
-  where
-    go : (b : Bool) → length (trimStart p ys) ≤ length ys → length (if b then trimStart p ys else y ∷ ys) ≤ suc (length ys)
-    go true h = omega arith
-    go false h = omega arith
 
 -- the start is trimmed after the end
 pub by-lead : (d : List ℕ) (t : CodeText) (f : Finished) → t .fault ≡ 0 → f ≡ finished (textOf t d) → f .len ≤ f .end

@@ -28,7 +28,7 @@ use Rattle.rules.specs.Formatter.{formatReservedWord, pushReserved, form
 
 -- ---- lengths of what the rules cut and write
 
-length-trimStart : (p : ℕ → Bool) (v : List ℕ) → length (trimStart p v) ≤ length v
+pub length-trimStart : (p : ℕ → Bool) (v : List ℕ) → length (trimStart p v) ≤ length v
 length-trimStart p [] = omega arith
 length-trimStart p (x ∷ xs) = go (p x) (length-trimStart p xs)
   where
@@ -74,6 +74,12 @@ length-squeeze (x ∷ xs) = go (isWhite x) (length-squeeze xs) (length-blankBefo
     go true h k = omega arith
     go false h k = omega arith
 
+pub length-joined : (v : List ℕ) → length (equalizeWhitespace v) ≤ length v
+length-joined v =
+    let h = length-squeeze v in
+    let k = length-trimStart isWhite (squeeze v) in
+    omega arith
+
 length-map : (f : ℕ → ℕ) (v : List ℕ) → length (map f v) ≡ length v
 length-map f [] = refl
 length-map f (x ∷ xs) = ap suc (length-map f xs)
@@ -82,11 +88,9 @@ length-word : (e : Env) (v : List ℕ) → length (formatReservedWord e v) ≡ l
 unfolding formatReservedWord
 length-word e v = length-map _ v
 
-length-joined : (e : Env) (v : List ℕ) → length (equalizeWhitespace (formatReservedWord e v)) ≤ length v
-length-joined e v =
-    let w = formatReservedWord e v in
-    let h = length-squeeze w in
-    let k = length-trimStart isWhite (squeeze w) in
+length-reserved : (e : Env) (v : List ℕ) → length (equalizeWhitespace (formatReservedWord e v)) ≤ length v
+length-reserved e v =
+    let h = length-joined (formatReservedWord e v) in
     let l = length-word e v in
     omega arith
 
@@ -422,7 +426,7 @@ byValue e v =
 
 word : (e : Env) (t : Token) {s : State} → Grows s (pushReserved e t s) (length (t .value))
 unfolding pushReserved
-word e t = pushes e _ (length-joined e (t .value))
+word e t = pushes e _ (length-reserved e (t .value))
 
 pub reserved : (e : Env) (h : Here) {s : State} → GrowsBy e (h .token .value) s (formatReserved e h s)
 unfolding formatReserved

@@ -1,3 +1,5 @@
 pub mod CaseLaws
 pub mod JoinLaws
+pub mod CopyLaws
+pub mod RoomLaws
 pub mod CommentLaws

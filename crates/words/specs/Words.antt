@@ -1,9 +1,17 @@
--- What one turn of a word or a comment appends.
+-- What one turn of a word or a comment appends, and what it is to write a list.
+use mathlib.Core.Path.{_≡_}
 use mathlib.Core.List.{List, [], _∷_, _++_}
 use mathlib.Core.Bool.{Bool, true, false}
-use Prim.Native.Nat.{ℕ, zero, suc}
+use Prim.Native.Nat.{ℕ, zero, suc, _+_}
+use lib.ListN.{length}
 use Rattle.rules.specs.Base.{if_then_else_}
 use Rattle.rules.specs.Text.{isBlank}
+use Rattle.text.specs.Put.{put}
+
+-- p was written over d from index at: that is t, and p ends at end
+pub record Written (d : List ℕ) (at : ℕ) (p t : List ℕ) (end : ℕ) : Type 0 where
+  pub bytes : t ≡ put d at p
+  pub ends : end ≡ at + length p
 
 -- a byte, with a blank before it where white was read
 abbrev pub spaced : Bool → ℕ → List ℕ

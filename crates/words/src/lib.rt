@@ -13,12 +13,13 @@ use text::refuse;
 ghost use mathlib.Core.Path.{_≡_};
 ghost use mathlib.Core.List.{_∷_};
 ghost use Prim.Native.Nat.{_+_, _≤_};
+ghost use lib.Dec.{leb};
 ghost use lib.ListN.{length};
 ghost use Rattle.rules.specs.Text.{inCase, equalizeWhitespace, indentComment, indentOf, append};
 ghost use Rattle.ascii.specs.Part.{part};
 ghost use Rattle.text.specs.Put.{put};
 ghost use Rattle.text.specs.Held.{textOf, Held, Laid};
-ghost use Rattle.words.specs.Words.{spaced, blanks, leadOf};
+ghost use Rattle.words.specs.Words.{Written, spaced, blanks, leadOf};
 
 // ---- a word in a case
 
@@ -62,18 +63,85 @@ pub fn append_cased(text: &mut [u8], t: Text, src: &[u8], start: usize, n: usize
 
 // ---- a reserved word
 
-fn append_spaced(text: &mut [u8], t: Text, gap: bool, b: u8) -> Text
-    requires { ⌜ Held t (now text) ⌝ }
-    ensures { λ r. ⌜ Laid (length (now (text .entry))) (append (length (now (text .entry))) (spaced gap b) (textOf t (now (text .entry)))) r (now (text .exit)) ⌝ }
+// A byte, with a blank before it where there is a gap; gives the new end.
+fn copy_spaced(text: &mut [u8], at: usize, gap: bool, b: u8) -> usize
+    requires { ⌜ at + length (spaced gap b) ≤ length (now text) ⌝ }
+    ensures { λ r. ⌜ Written (now (text .entry)) at (spaced gap b) (now (text .exit)) r ⌝ }
 {
     if gap {
-        let one = append_byte(text, t, 32);
-        return append_byte(text, one, b);
+        text[at] = 32;
+        text[at + 1] = b;
+        return at + 2;
     }
-    append_byte(text, t, b)
+    text[at] = b;
+    at + 1
 }
 
 // In one pass: white before the first other byte is left out, and white after one is a gap, written as a blank before the next.
+// No case makes a byte white that was not, or the other way: white is tested on the value's own byte.
+fn copy_joined(text: &mut [u8], at: usize, src: &[u8], start: usize, n: usize, k: Case) -> usize
+    requires { ⌜ at + length (equalizeWhitespace (inCase k (part (now src) start n))) ≤ length (now text) ⌝ }
+    requires { ⌜ start + n ≤ length (now src) ⌝ }
+    ensures { λ r. ⌜ Written (now (text .entry)) at (equalizeWhitespace (inCase k (part (now (src .entry)) start n))) (now (text .exit)) r ⌝ }
+{
+    let mut end = at;
+    let mut gap = false;
+    let mut i = 0;
+    while i < n {
+        let b = src[start + i];
+        i += 1;
+        if is_white(b) {
+            gap = at < end;
+            continue;
+        }
+        end = copy_spaced(text, end, gap, in_case(k, b));
+        gap = false;
+    }
+    end
+}
+
+// How many bytes a byte takes with its gap.
+fn spaced_len(gap: bool) -> usize
+    ensures { λ r. ⌜ r ≡ length (spaced gap 0) ⌝ }
+{
+    if gap {
+        return 2;
+    }
+    1
+}
+
+// The same pass, which only counts.
+fn joined_len(src: &[u8], start: usize, n: usize) -> usize
+    requires { ⌜ start + n ≤ length (now src) ⌝ }
+    ensures { λ r. ⌜ r ≡ length (equalizeWhitespace (part (now (src .entry)) start n)) ⌝ }
+{
+    let mut len = 0;
+    let mut gap = false;
+    let mut i = 0;
+    while i < n {
+        let b = src[start + i];
+        i += 1;
+        if is_white(b) {
+            gap = 0 < len;
+            continue;
+        }
+        len += spaced_len(gap);
+        gap = false;
+    }
+    len
+}
+
+// A joined word is never longer than its value, so its bytes are counted only where the value has no room.
+fn has_room(src: &[u8], start: usize, n: usize, room: usize) -> bool
+    requires { ⌜ start + n ≤ length (now src) ⌝ }
+    ensures { λ r. ⌜ r ≡ leb (length (equalizeWhitespace (part (now (src .entry)) start n))) room ⌝ }
+{
+    if n <= room {
+        return true;
+    }
+    joined_len(src, start, n) <= room
+}
+
 pub fn append_reserved(
     text: &mut [u8],
     t: Text,
@@ -86,22 +154,27 @@ pub fn append_reserved(
     requires { ⌜ start + n ≤ length (now src) ⌝ }
     ensures { λ r. ⌜ Laid (length (now (text .entry))) (append (length (now (text .entry))) (equalizeWhitespace (inCase k (part (now (src .entry)) start n))) (textOf t (now (text .entry)))) r (now (text .exit)) ⌝ }
 {
-    let mut done = t;
-    let mut begun = false;
-    let mut gap = false;
-    let mut i = 0;
-    while i < n {
-        let b = in_case(k, src[start + i]);
-        i += 1;
-        if is_white(b) {
-            gap = begun;
-            continue;
-        }
-        done = append_spaced(text, done, gap, b);
-        begun = true;
-        gap = false;
+    let fault = t.fault;
+    if fault != 0 {
+        return Text {
+            len: 0,
+            floor: 0,
+            low: 0,
+            fault,
+        };
     }
-    done
+    let len = t.len;
+    let room = text.len() - len;
+    if !has_room(src, start, n, room) {
+        return refuse(text, t, 9);
+    }
+    let end = copy_joined(text, len, src, start, n, k);
+    Text {
+        len: end,
+        floor: t.floor,
+        low: t.low,
+        fault: 0,
+    }
 }
 
 // ---- a block comment

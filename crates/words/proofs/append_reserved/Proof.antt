@@ -1,79 +1,47 @@
 use borrow.Author.Needs.{needs}
-use mathlib.Core.Path.{_≡_}
-use mathlib.Core.Bool.{_&&_}
-use Prim.Native.Nat.{_-_, _≤_}
-use lib.ListN.{length, drop}
-use Rattle.rules.specs.Text.{inCase, equalizeWhitespace, append}
-use Rattle.ascii.specs.Part.{part}
-use Rattle.text.specs.Held.{textOf}
-use Rattle.text.proofs.WorkLaws.{Working}
-use Rattle.words.proofs.JoinLaws.{restOf, by-join, and-same, by-white, by-black, by-joined}
+use borrow.Author.Tests.{not-true, not-false}
+use Rattle.text.proofs.AppendLaws.{kept-append, by-full}
+use Rattle.words.proofs.RoomLaws.{by-no-room, by-fits, by-written}
 use Rattle.words.proofs.append_reserved.Statement.{statement}
 use Rattle.words.proofs.append_reserved.Tie as tie
 
-abbrev Inv-loop : tie.InvT-loop
-Inv-loop text₀ src start n k done₀ begun₀ gap₀ i₀ text done begun gap i =
-    (i ≤ n) × Working (length text₀) (append (length text₀) (equalizeWhitespace (inCase k (part src start n))) (textOf done₀ text₀)) (restOf begun gap (inCase k (drop i (part src start n)))) done text
-    × (gap && begun ≡ gap)
+returns : tie.Need-returns
+returns c = search (needs, kept-append)
 
-abbrev μ-loop : tie.MeasureT-loop
-μ-loop text₀ src start n k done₀ begun₀ gap₀ i₀ text done begun gap i = n - i
+sub-room : tie.Need-sub-room
+sub-room c = search needs
 
-loop-holds : tie.Need-loop-holds Inv-loop μ-loop
-loop-holds c = search (needs, by-join)
+has-room-requires : tie.Need-has-room-requires
+has-room-requires c κs = search needs
 
-add-in-case : tie.Need-add-in-case Inv-loop μ-loop
-add-in-case c = search needs
+refuse-requires : tie.Need-refuse-requires
+refuse-requires c κs = search needs
 
-shared-slice-read-in-case : tie.Need-shared-slice-read-in-case Inv-loop μ-loop
-shared-slice-read-in-case c = search needs
-
-in-case-requires : tie.Need-in-case-requires Inv-loop μ-loop
-in-case-requires c κs = search needs
-
-add-i : tie.Need-add-i Inv-loop μ-loop
-add-i c = search needs
-
-is-white-requires : tie.Need-is-white-requires Inv-loop μ-loop
-is-white-requires c κs = search needs
-
-loop-less : tie.Need-loop-less Inv-loop μ-loop
-loop-less c = search needs
-
-loop-again : tie.Need-loop-again Inv-loop μ-loop
-loop-again c = search (needs, by-white, and-same)
-
-append-spaced-requires : tie.Need-append-spaced-requires Inv-loop μ-loop
-append-spaced-requires c κs = search needs
-
-loop-less-2 : tie.Need-loop-less-2 Inv-loop μ-loop
-loop-less-2 c = search needs
-
-loop-again-2 : tie.Need-loop-again-2 Inv-loop μ-loop
-loop-again-2 c = search (needs, by-black)
-
-same-length : tie.Need-same-length Inv-loop μ-loop
+same-length : tie.Need-same-length
 same-length c = search needs
 
-returns : tie.Need-returns Inv-loop μ-loop
-returns c = search (needs, by-joined)
+returns-2 : tie.Need-returns-2
+returns-2 c = search (needs, not-true, by-full, by-no-room)
+
+copy-joined-requires : tie.Need-copy-joined-requires
+copy-joined-requires c κs = search (needs, not-false, by-fits)
+
+same-length-2 : tie.Need-same-length-2
+same-length-2 c = search needs
+
+returns-3 : tie.Need-returns-3
+returns-3 c = search (needs, not-false, by-written)
 
 pub append-reserved-spec : {M : Type 1} → statement M
 append-reserved-spec =
     tie.close
     (tie.spec
-    Inv-loop
-    μ-loop
-    loop-holds
-    add-in-case
-    shared-slice-read-in-case
-    in-case-requires
-    add-i
-    is-white-requires
-    loop-less
-    loop-again
-    append-spaced-requires
-    loop-less-2
-    loop-again-2
+    returns
+    sub-room
+    has-room-requires
+    refuse-requires
     same-length
-    returns)
+    returns-2
+    copy-joined-requires
+    same-length-2
+    returns-3)
