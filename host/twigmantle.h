@@ -3,7 +3,7 @@
  * Link libtwigmantle.a (rt staticlib twigmantle; x86-64). It may call memcpy, memmove and memset, and nothing else; it allocates nothing.
  *
  * Pointers. Each must be good for the length given with it, and may be null where that length is 0. The sheet is only read. The sheet, the buffer and the list may
- * not overlap, and no one else may write to any of them during the call.
+ * not overlap, and no one else may write to any of them during the call: to compact a sheet, lend another buffer than its own.
  *
  * Threads. The library keeps no state between calls or across them: any number of threads may call at once, each with a buffer and a list of its own. Sheets may be
  * shared. */
@@ -47,6 +47,21 @@ struct twigmantle_report twigmantle_layout(const uint8_t *sheet, size_t n, uint8
  * is a placeholder. */
 struct twigmantle_report twigmantle_layout_rows(const uint8_t *sheet, size_t n, uint8_t *text, size_t room, uint32_t *rows, size_t words);
 
+/* What a call gives back that lays nothing out. refusal 0: place is 0. Otherwise place says where, and length is 0. */
+struct twigmantle_outcome {
+    uint32_t refusal; /* enum twigmantle_refusal */
+    uint64_t place;
+    uint64_t length; /* of what was written, in bytes */
+};
+
+/* Writes the sheet of n bytes anew into out, a buffer of room bytes, with only those bytes of the bodies that some place covers, in their old order: a place
+ * then starts at the number of kept bytes before its old start, and an empty place at 0. The new sheet stands at out's start, zero bytes after it. It passes
+ * refusals 1 to 4, both layout calls answer as they do for the old one, it is not longer, and compacting it gives it back.
+ *
+ * Refusals 1 to 4 are those of the layout calls. 11 at 0: room is less than the new sheet's length. A buffer as long as the old sheet is never too short. On a
+ * refusal out is all zero. */
+struct twigmantle_outcome twigmantle_compact(const uint8_t *sheet, size_t n, uint8_t *out, size_t room);
+
 /* Writes the default head into out, n bytes: its 48 bytes, zero after them, and gives 48. An out under 48 bytes becomes zero, and it gives 0; n 0 too. */
 size_t twigmantle_default_head(uint8_t *out, size_t n);
 
@@ -60,6 +75,9 @@ typedef char twigmantle_report_has_place_at_8[offsetof(struct twigmantle_report,
 typedef char twigmantle_report_has_length_at_16[offsetof(struct twigmantle_report, length) == 16 ? 1 : -1];
 typedef char twigmantle_report_has_lines_at_24[offsetof(struct twigmantle_report, lines) == 24 ? 1 : -1];
 typedef char twigmantle_report_has_width_at_32[offsetof(struct twigmantle_report, width) == 32 ? 1 : -1];
+typedef char twigmantle_outcome_has_24_bytes[sizeof(struct twigmantle_outcome) == 24 ? 1 : -1];
+typedef char twigmantle_outcome_has_place_at_8[offsetof(struct twigmantle_outcome, place) == 8 ? 1 : -1];
+typedef char twigmantle_outcome_has_length_at_16[offsetof(struct twigmantle_outcome, length) == 16 ? 1 : -1];
 typedef char twigmantle_lengths_have_64_bits[sizeof(size_t) == 8 && sizeof(void *) == 8 ? 1 : -1];
 
 /* Refusals, and what the place counts: bytes of the sheet up to TWIGMANTLE_REFUSAL_BYTE, tokens up to TWIGMANTLE_REFUSAL_ROOM. */
@@ -74,7 +92,8 @@ enum twigmantle_refusal {
     TWIGMANTLE_REFUSAL_INLINE = 7, /* one more open inline block than that */
     TWIGMANTLE_REFUSAL_FOLDED = 8, /* a folded block closed with no unfolded entry left */
     TWIGMANTLE_REFUSAL_ROOM = 9,   /* the working text would be longer than the buffer */
-    TWIGMANTLE_REFUSAL_LIST = 10   /* fewer than TWIGMANTLE_ROW_WORDS words for each placeholder to be laid out; place 0; of twigmantle_layout_rows alone */
+    TWIGMANTLE_REFUSAL_LIST = 10,  /* fewer than TWIGMANTLE_ROW_WORDS words for each placeholder to be laid out; place 0; of twigmantle_layout_rows alone */
+    TWIGMANTLE_REFUSAL_SHEET = 11  /* a buffer shorter than the new sheet; place 0; of twigmantle_compact alone */
 };
 
 /* A row of the list, by word: where a placeholder's value stands in the text. */

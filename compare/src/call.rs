@@ -17,6 +17,16 @@ pub struct Report {
     pub width: u64,
 }
 
+/// The same, of a call that lays nothing out.
+#[cfg(feature = "compact")]
+#[repr(C)]
+#[derive(Debug, Clone, Copy, PartialEq, Eq)]
+pub struct Outcome {
+    pub refusal: u32,
+    pub place: u64,
+    pub length: u64,
+}
+
 mod linked {
     unsafe extern "C" {
         pub fn twigmantle_layout(
@@ -35,6 +45,13 @@ mod linked {
             rows: *mut u32,
             words: usize,
         ) -> super::Report;
+        #[cfg(feature = "compact")]
+        pub fn twigmantle_compact(
+            sheet: *const u8,
+            n: usize,
+            out: *mut u8,
+            room: usize,
+        ) -> super::Outcome;
     }
 }
 
@@ -59,7 +76,26 @@ pub fn layout_rows(sheet: &[u8], text: &mut [u8], rows: &mut [u32]) -> Report {
     }
 }
 
+#[cfg(feature = "compact")]
+pub fn compact(sheet: &[u8], out: &mut [u8]) -> Outcome {
+    // Safe: both slices are as long as is said, and one is lent to this call alone.
+    unsafe { linked::twigmantle_compact(sheet.as_ptr(), sheet.len(), out.as_mut_ptr(), out.len()) }
+}
+
 const PAINT: u8 = 0xa5;
+
+/// The new sheet that the call gives at this room; an error if it left a byte or a count that it may
+/// not leave.
+#[cfg(feature = "compact")]
+pub fn compacted(sheet: &[u8], room: usize) -> Result<Result<Vec<u8>, Refusal>, String> {
+    let mut buffer = vec![PAINT; room + 1];
+    let Outcome { refusal, place, length } = compact(sheet, &mut buffer[..room]);
+    let report = Report { refusal, place, length, lines: 0, width: 0 };
+    Ok(match read(report, &buffer, room)? {
+        Answer::Laid { text, .. } => Ok(text),
+        Answer::Refused(refusal) => Err(refusal),
+    })
+}
 
 /// What the call gives at this room; an error if it left a byte or a count that it may not leave.
 pub fn answer(sheet: &[u8], room: usize) -> Result<Answer, String> {

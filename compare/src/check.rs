@@ -5,10 +5,10 @@ use std::fs;
 
 use crate::model::{self, Answer, Refusal, Row, Trial, WORDS};
 use crate::oracle::{self, Panic, Read};
-use crate::pointed;
 use crate::random::{self, Dice, Made, noise, white};
 use crate::sheet::{INLINE_ON, NAMES, Reader, Sheet};
 use crate::watched;
+use crate::{compacted, pointed};
 use crate::{show, watched::Height};
 
 #[derive(Default)]
@@ -63,6 +63,9 @@ pub fn run(n: u64, seed: u64) -> bool {
             let pointed = pointed::judged(&made.bytes, &ample)?;
             tally.add("a rows judged by", pointed);
             pointed::call(&made.bytes, &ample, room)?;
+            let new = compacted::judged(&made.bytes, &ample, room)?;
+            tally.add("d compacted", new);
+            compacted::call(&mut dice, &made.bytes)?;
             if turn % EVERY == 0 {
                 every_room(&mut tally, &made.bytes, &ample)?;
                 every_list(&mut tally, &made.bytes, &ample, room)?;
@@ -84,9 +87,10 @@ pub fn run(n: u64, seed: u64) -> bool {
     }
     tally.print();
     println!("each length from 0 to {} is met {} times or more", noise::LONGEST, least(&lengths));
-    let with = match (cfg!(feature = "call"), cfg!(feature = "rows")) {
-        (_, true) => ", both calls too",
-        (true, _) => ", the call too",
+    let with = match (cfg!(feature = "call"), cfg!(feature = "rows"), cfg!(feature = "compact")) {
+        (_, _, true) => ", both calls and the compacting too",
+        (_, true, _) => ", both calls too",
+        (true, ..) => ", the call too",
         _ => "",
     };
     println!("{n} sheets, seed {seed}{with}: no difference");

@@ -5,6 +5,7 @@ mod answers;
 #[cfg(feature = "call")]
 mod call;
 mod check;
+mod compacted;
 mod model;
 mod oracle;
 mod pointed;

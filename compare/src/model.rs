@@ -4,11 +4,13 @@
 
 mod ahead;
 mod checks;
+mod compact;
 mod layout;
 mod rows;
 mod text;
 
 use crate::watched::{Height, Stretch};
+pub use compact::compacted;
 pub use rows::{Row, WORDS, list};
 
 #[derive(Debug, Clone, Copy, PartialEq, Eq)]

@@ -3,6 +3,7 @@
 mod brim;
 mod comments;
 mod damage;
+mod edited;
 pub mod noise;
 pub mod query;
 mod soup;
@@ -101,6 +102,7 @@ pub enum Maker {
     Comments,
     Values,
     Tabs,
+    Edited,
 }
 
 const USUAL: [Maker; 16] = [
@@ -129,6 +131,9 @@ pub fn make_any(dice: &mut Dice) -> Made {
     }
     if dice.one_in(12) {
         return make_with(dice, Maker::Tabs, Size::Any, Inline::Any);
+    }
+    if dice.one_in(12) {
+        return make_with(dice, Maker::Edited, Size::Any, Inline::Any);
     }
     make_at_any(dice)
 }
@@ -173,7 +178,9 @@ pub fn make_with(dice: &mut Dice, maker: Maker, size: Size, inline: Inline) -> M
     let whole = match maker {
         Maker::White if dice.one_in(4) => Maker::Comments,
         Maker::Tabs if dice.one_in(4) => dice.pick(&[Maker::Comments, Maker::Values]),
-        Maker::Damaged | Maker::Flipped | Maker::White | Maker::Tabs => dice.pick(&USUAL[..13]),
+        Maker::Damaged | Maker::Flipped | Maker::White | Maker::Tabs | Maker::Edited => {
+            dice.pick(&USUAL[..13])
+        }
         other => other,
     };
     let mut sheet = sheet(dice, whole, size);
@@ -193,6 +200,11 @@ pub fn make_with(dice: &mut Dice, maker: Maker, size: Size, inline: Inline) -> M
         Maker::Flipped => {
             let bytes = damage::flipped(dice, bytes);
             Made { maker: "flipped", bytes, sheet: None, expected: None }
+        }
+        Maker::Edited => {
+            let bytes = edited::edited(dice, bytes);
+            let sheet = Sheet::decode(&bytes);
+            Made { maker: "edited", bytes, sheet, expected: None }
         }
         _ => Made { maker: name(maker), bytes, sheet: Some(sheet), expected: None },
     }
@@ -217,6 +229,7 @@ fn name(maker: Maker) -> &'static str {
         Maker::Comments => "comments",
         Maker::Values => "values",
         Maker::Tabs => "tabs",
+        Maker::Edited => "edited",
     }
 }
 

@@ -3,7 +3,7 @@
 use std::path::Path;
 use std::{fs, io};
 
-use crate::model::{Answer, Refusal};
+use crate::model::{self, Answer, Refusal};
 use crate::sheet::*;
 use crate::table;
 
@@ -165,8 +165,28 @@ fn samples() -> Vec<Sample> {
          nothing after the `--` would run.",
         with(filled(of(CONSOLE), MODE_INDEXED, LIST), |o| o.inline = INLINE_COMMENTS),
     ));
+    samples.push(sample(
+        EDITED,
+        "As a station's tool leaves it: the parameters were edited, and their old values stand in the bodies \
+         still. `target/bin/compact_sheet < samples/edited.sheet` writes it without them \
+         (`edited.compact`), and the new sheet gives the same text.",
+        filled(of(INDEXED), MODE_INDEXED, LIST),
+    ));
     samples.extend(refused());
     samples
+}
+
+/// The sample with old text in its bodies.
+const EDITED: &str = "edited";
+
+/// One value after another; in the edited sample each parameter's comes after a former one.
+fn encoded(sample: &Sample) -> Vec<u8> {
+    let old: &[(&[u8], &[u8])] = &[(b"48213", b"48197" as &[u8]), (b"7", b"12")];
+    sample.sheet.encode(&mut |body: &mut Vec<u8>, value: &[u8]| {
+        let former = old.iter().filter(|(new, _)| sample.name == EDITED && value == *new);
+        former.for_each(|(_, old)| body.extend_from_slice(old));
+        in_turn(body, value)
+    })
 }
 
 fn placeholders() -> [Sample; 4] {
@@ -292,9 +312,13 @@ fn write(folder: &Path) -> io::Result<()> {
     fs::create_dir_all(folder)?;
     let mut page = OPENING.to_owned();
     for sample in samples() {
-        let bytes = sample.sheet.encode(&mut in_turn);
+        let bytes = encoded(&sample);
         let text = printed(&table::judged(&bytes, ROOM));
         page += &section(&sample, &text);
+        if sample.name == EDITED {
+            let new = model::compacted(&bytes, ROOM).expect("a sound sheet");
+            fs::write(folder.join(sample.name).with_extension("compact"), new)?;
+        }
         fs::write(folder.join(sample.name).with_extension("sheet"), bytes)?;
         fs::write(folder.join(sample.name).with_extension("text"), text)?;
     }

@@ -1,6 +1,8 @@
 //! Document 01's fourteen sheets, each with every variant and buffer that it names; further ones;
-//! those on word 7 at 2, which the Rust has not; and those whose rows are known.
+//! those on word 7 at 2, which the Rust has not; those whose rows are known; and those whose
+//! compacted sheet is.
 
+mod compact;
 mod rows;
 
 use crate::check::{columns, measured};
@@ -380,7 +382,8 @@ pub fn run() -> bool {
     let comments = count(comment_sheets(), "line comments at word 7 = 0, 1, 2");
     let tabs = count(tab_sheets(), "tabs");
     let rows = rows::run();
-    sheets && further && comments && tabs && rows && head()
+    let compacted = compact::run();
+    sheets && further && comments && tabs && rows && compacted && head()
 }
 
 /// The call's default head, where it is linked.

@@ -14,11 +14,13 @@ pub mod State
 pub mod Formatter
 pub mod Answer
 pub mod Rows
+pub mod Compacted
 pub mod Computed
 pub mod Encode
 pub mod Sheets
 pub mod Comments
 pub mod Tabs
 pub mod Pointing
+pub mod Compacting
 pub mod Due
 pub mod Shown

@@ -196,3 +196,11 @@ pub struct Report {
     pub lines: u64,
     pub width: u64,
 }
+
+// The answer of a call that lays nothing out: a refusal's number and place, or 0, 0 and a length.
+#[repr(C)]
+pub struct Outcome {
+    pub refusal: u32,
+    pub place: u64,
+    pub length: u64,
+}

@@ -20,15 +20,26 @@ use Rattle.records.specs.Sheeted.{Sheeted}
 use Rattle.switched.specs.Count.{few-placeholders}
 use Rattle.twigmantle.specs.Called.{calledAs, listCalled}
 use Rattle.text.specs.Put.{put}
+use Rattle.rules.specs.declared.Outcome.{Outcome}
+use Rattle.rules.specs.Compacted.{refusal as unwritten, compactAs, compact, outcomeOf, bufferWith, Compacts}
+use Rattle.compacted.specs.Call.{call-compacts}
 
 -- a buffer that is filled with zero is that of a refusal
-pub by-cleared : (d q : List ℕ) (number place : ℕ) → q ≡ put d 0 (replicate (length d) 0) → q ≡ bufferOf (length d) (refusal number place)
-unfolding bufferOf put
-by-cleared d q number place e =
+zeroed : (d q : List ℕ) → q ≡ put d 0 (replicate (length d) 0) → q ≡ replicate (length d) 0
+unfolding put
+zeroed d q e =
     let zeros : List ℕ = replicate (length d) 0 in
     let l : length zeros ≡ length d = length-replicate (length d) 0 in
     let g : length d ≤ 0 + length zeros = omega arith in
     e ∙ rw (drop-of-length-le d g) (append-nil _)
+
+pub by-cleared : (d q : List ℕ) (number place : ℕ) → q ≡ put d 0 (replicate (length d) 0) → q ≡ bufferOf (length d) (refusal number place)
+unfolding bufferOf
+by-cleared d q number place e = zeroed d q e
+
+pub by-not-written : (d q : List ℕ) (number place : ℕ) → q ≡ put d 0 (replicate (length d) 0) → q ≡ bufferWith (length d) (unwritten number place)
+unfolding bufferWith
+by-not-written d q number place e = zeroed d q e
 
 -- one or the other, where they are one
 either : {A : Type 0} {a : A} (g : Bool) → (if g then a else a) ≡ a
@@ -111,3 +122,14 @@ module _ (s : List ℕ) (room k : ℕ) (r : Report) (out list : List ℕ) where
   pub second-told : Told s room true k (checked s) r out list → (r ≡ listedReport s room k) × ((out ≡ listedBuffer s room k) × (list ≡ listAfter s room k))
   unfolding calledAs listCalled listedReport listedBuffer listAfter listed
   second-told h = h
+
+-- ---- the compacting call
+
+pub by-written : (s : List ℕ) (room : ℕ) (f c : Checked) (r : Outcome) (out : List ℕ) → f ≡ checked s → f ≡ c → r ≡ outcomeOf (compactAs s room c) → out ≡ bufferWith room (compactAs s room c)
+    → (r ≡ outcomeOf (compact s room)) × ((out ≡ bufferWith room (compact s room)) × Compacts s r out)
+unfolding compact
+by-written s room f c r out e g told left =
+    let h : c ≡ checked s = sym g ∙ e in
+    let one : r ≡ outcomeOf (compact s room) = told ∙ ap (λ (z : Checked). outcomeOf (compactAs s room z)) h in
+    let two : out ≡ bufferWith room (compact s room) = left ∙ ap (λ (z : Checked). bufferWith room (compactAs s room z)) h in
+    (one, (two, call-compacts s room r out one two))

@@ -11,11 +11,13 @@ ghost use Rattle.rules.specs.Answer.{refusal, format, reportOf, bufferOf, repor
 ghost use Rattle.rules.specs.Rows.{rows as rowsOf, placeholders as placeholdersOf, isShort, listFor, listedReport, listedBuffer, listAfter};
 ghost use Rattle.rules.specs.Due.{Faithful};
 ghost use Rattle.rules.specs.Shown.{Pointed};
+ghost use Rattle.rules.specs.Compacted.{refusal as unwritten, compact as compactOf, outcomeOf, bufferWith, Compacts};
 ghost use Rattle.records.specs.Sheeted.{Sheeted};
 ghost use Rattle.head.specs.Head.{headWritten, headReturned};
 ghost use Rattle.twigmantle.specs.Called.{calledAs, listCalled};
 use rules::Checked;
 use rules::Counts;
+use rules::Outcome;
 use rules::Report;
 use state::Context;
 use switched::placeholders;
@@ -116,6 +118,37 @@ pub extern "C" fn twigmantle_layout_rows(sheet: &[u8], text: &mut [u8], rows: &m
     ensures { λ r. ⌜ Pointed (now (sheet .entry)) r (now (text .exit)) (now (rows .exit)) ⌝ }
 {
     called(sheet, text, rows, true)
+}
+
+// A refusal of a call that lays nothing out.
+fn not_written(out: &mut [u8], number: u32, place: usize) -> Outcome
+    ensures { λ r. ⌜ r ≡ outcomeOf (unwritten number place) ⌝ }
+    ensures { λ r. ⌜ now (out .exit) ≡ bufferWith (length (now (out .entry))) (unwritten number place) ⌝ }
+{
+    let room = out.len();
+    text::fill(out, 0, 0, room);
+    Outcome {
+        refusal: number,
+        place: place as u64,
+        length: 0,
+    }
+}
+
+// The compacting call: the sheet written anew with only the body bytes that some place covers, and zero after it, or zero alone.
+#[no_mangle]
+pub extern "C" fn twigmantle_compact(sheet: &[u8], out: &mut [u8]) -> Outcome
+    ensures { λ r. ⌜ r ≡ outcomeOf (compactOf (now (sheet .entry)) (length (now (out .entry)))) ⌝ }
+    ensures { λ r. ⌜ now (out .exit) ≡ bufferWith (length (now (out .entry))) (compactOf (now (sheet .entry)) (length (now (out .entry)))) ⌝ }
+    ensures { λ r. ⌜ Compacts (now (sheet .entry)) r (now (out .exit)) ⌝ }
+{
+    let found = checks::check(sheet);
+    match found {
+        Checked::Sound(c) => compact::compact(sheet, out, c),
+        Checked::Size => not_written(out, 1, 0),
+        Checked::Word(p) => not_written(out, 2, p),
+        Checked::Place(p) => not_written(out, 3, p),
+        Checked::Byte(p) => not_written(out, 4, p),
+    }
 }
 
 // The default head: 48 bytes and zero after them; zero alone in a slice under 48.

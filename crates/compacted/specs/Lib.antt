@@ -1,0 +1,9 @@
+pub mod Bytes
+pub mod Places
+pub mod Kept
+pub mod Moved
+pub mod Same
+pub mod Sound
+pub mod Again
+pub mod Theorem
+pub mod Call

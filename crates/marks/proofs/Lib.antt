@@ -1,0 +1,5 @@
+pub mod TestLaws
+pub mod BitLaws
+pub mod CountLaws
+pub mod MarkLaws
+pub mod SettleLaws
