@@ -4,7 +4,8 @@
  *
  * The sheet, the buffer and the list of a call lie at the fences of fence.h, in turn in each way that it has; a sheet there may only be read. Every answer is held
  * to judge.h, and the second call's report and text to the first's. The first wrong thing is said, its sheet is saved as hard.sheet (compare show reads it), and
- * the program ends with 1. With HARD_WITHOUT_ROWS defined it makes the first call alone. */
+ * the program ends with 1. With HARD_WITHOUT_ROWS defined it makes the first call alone; else each pair of calls is made again by the engine that reads ahead once,
+ * with a table at the same fences, which must give the same and leave the table zero. */
 #define _GNU_SOURCE
 #include <fcntl.h>
 #include <inttypes.h>
@@ -17,12 +18,12 @@
 
 enum { AMPLE = 1 << 16, MOST_ROOM = 1 << 22, MOST_WORDS = TWIGMANTLE_MOST_LIST + 64, LONGER = 64, SECONDS = 60, MANY = 5000 };
 
-static struct pages sheets, texts, lists;
+static struct pages sheets, texts, lists, tables;
 static uint8_t made[LONGEST + LONGER], text_now[MOST_ROOM], text_first[MOST_ROOM];
 static size_t length, room_now, words_now; /* of the made sheet, of the buffer and of the list */
 static enum where where_now;
 static const char *stage = "the default head";
-static uint64_t turn, calls, too_short, short_lists, counts[10];
+static uint64_t turn, calls, too_short, short_lists, short_tables, counts[10];
 
 /* A line put together without stdio, for it may be said in the middle of a call. */
 static char line[512];
@@ -89,8 +90,9 @@ static void caught(int number, siginfo_t *info, void *context)
     }
     const char *sheet = beside(&sheets, at, "a byte before the sheet was touched", "the sheet was written to", "a byte after the sheet was touched");
     const char *text = beside(&texts, at, "a byte before the buffer was touched", "the buffer", "a byte after the buffer was touched");
+    const char *table = beside(&tables, at, "a byte before the table was touched", "the table", "a byte after the table was touched");
     const char *list = beside(&lists, at, "a byte before the list was touched", "the list", "a byte after the list was touched");
-    wrong(sheet != NULL ? sheet : text != NULL ? text : list != NULL ? list : "a byte far from what was lent was touched");
+    wrong(sheet != NULL ? sheet : text != NULL ? text : list != NULL ? list : table != NULL ? table : "a byte far from what was lent was touched");
 }
 
 /* The numbers go together, the text is what is due, and zero follows it. Lines and width are counted again, so that every byte of the text is read. */
@@ -173,6 +175,8 @@ static const char *rows_fault(struct twigmantle_report r, struct twigmantle_repo
     return are_due_rows(made, text, (size_t)r.length, list, words_now) ? NULL : "rows that are not what is due";
 }
 
+static void lay_once(size_t room, size_t words, struct twigmantle_report first, struct twigmantle_report listed);
+
 /* The second call, after the first gave `first` for the same sheet and buffer; its list is left in `list_now`. */
 static void lay_rows(size_t room, size_t words, struct twigmantle_report first)
 {
@@ -194,6 +198,61 @@ static void lay_rows(size_t room, size_t words, struct twigmantle_report first)
     give_back(text, where);
     give_back((uint8_t *)list, where);
     words_now = 0;
+    if (one_in(2))
+        lay_once(room, words, first, r);
+}
+
+/* What is wrong with the answer of the other engine: it is the plain call's, whose text is in `text_now`; or 12, which leaves everything zero. */
+static const char *once_fault(struct twigmantle_report r, struct twigmantle_report plain, const uint8_t *text, const uint32_t *table, size_t words)
+{
+    static const struct twigmantle_report refusal_12 = {.refusal = TWIGMANTLE_REFUSAL_TABLE};
+    int sound = first_offence(made, length).refusal == 0, narrow = sound && words < TWIGMANTLE_TABLE_WORDS * (size_t)word_at(made, 0);
+    if (!same_report(r, narrow ? refusal_12 : plain))
+        return narrow ? "a table that is too short, and not refused with 12 at 0" : "not the plain call's report";
+    if (!is_zero((const uint8_t *)table, sizeof *table * words))
+        return "a table that is not zero";
+    if ((r.length > 0 && memcmp(text, text_now, (size_t)r.length) != 0) || !is_zero(text + r.length, room_now - (size_t)r.length))
+        return "not the plain call's text";
+    short_tables += (uint64_t)narrow;
+    return NULL;
+}
+
+/* Tables that just serve or just do not, or any. */
+static size_t some_table(void)
+{
+    size_t n = length >= 4 ? word_at(made, 0) : 0, need = TWIGMANTLE_TABLE_WORDS * (n <= TWIGMANTLE_MOST_TOKENS ? n : TWIGMANTLE_MOST_TOKENS);
+    size_t some[] = {need, need, need + under(40), need - (need > 0), under((uint32_t)need)};
+    return some[under(5)];
+}
+
+/* The two calls of the other engine, after the plain ones gave `first` and, with a list, `listed` and the list in `list_now`. */
+static void lay_once(size_t room, size_t words, struct twigmantle_report first, struct twigmantle_report listed)
+{
+    for (int with_rows = 0; with_rows < 2; with_rows++) {
+        enum where where = calls++ % WAYS;
+        size_t wide = some_table();
+        uint8_t *sheet = lend_sheet(where), *text = lend_painted(&texts, room, where);
+        uint32_t *list = (uint32_t *)(void *)lend_painted(&lists, sizeof *list * words, where);
+        uint32_t *table = (uint32_t *)(void *)lend_painted(&tables, sizeof *table * wide, where);
+        room_now = room;
+        words_now = words;
+        where_now = where;
+        struct twigmantle_report r = with_rows ? twigmantle_layout_rows_once(sheet, length, text, room, list, words, table, wide)
+                                               : twigmantle_layout_once(sheet, length, text, room, table, wide);
+        const char *what = once_fault(r, with_rows ? listed : first, text, table, wide);
+        int narrow = r.refusal == TWIGMANTLE_REFUSAL_TABLE;
+        if (what == NULL && with_rows && words > 0 && (narrow ? !is_zero((uint8_t *)list, sizeof *list * words) : memcmp(list, list_now, sizeof *list * words) != 0))
+            what = "not the plain call's list";
+        if (what == NULL && length > 0 && memcmp(sheet, made, length) != 0)
+            what = "the sheet was written to";
+        if (what != NULL)
+            wrong(what);
+        give_back(sheet, where);
+        give_back(text, where);
+        give_back((uint8_t *)list, where);
+        give_back((uint8_t *)table, where);
+        words_now = 0;
+    }
 }
 
 /* A list that just serves, or one that is longer or shorter. */
@@ -456,6 +515,7 @@ int main(int argc, char **argv)
     sheets = fenced(sizeof made, 0);
     texts = fenced(MOST_ROOM, 1);
     lists = fenced(MOST_WORDS * sizeof(uint32_t), 1);
+    tables = fenced((TWIGMANTLE_MOST_TABLE + 64) * sizeof(uint32_t), 1);
     watch();
     alarm(SECONDS);
     heads();
@@ -478,6 +538,6 @@ int main(int argc, char **argv)
     printf("%" PRIu64 " sheets, %" PRIu64 " calls, no fault\nat an ample buffer %" PRIu64 " texts, refusals 1 to 9:", turns, calls, counts[0]);
     for (int i = 1; i < 10; i++)
         printf(" %" PRIu64, counts[i]);
-    printf("\n%" PRIu64 " further buffers and %" PRIu64 " lists too short\n", too_short, short_lists);
+    printf("\n%" PRIu64 " further buffers, %" PRIu64 " lists and %" PRIu64 " tables too short\n", too_short, short_lists, short_tables);
     return meets_all(turns) ? 0 : 1;
 }

@@ -2,7 +2,7 @@
  *
  * Link libtwigmantle.a (rt staticlib twigmantle; x86-64). It may call memcpy, memmove and memset, and nothing else; it allocates nothing.
  *
- * Pointers. Each must be good for the length given with it, and may be null where that length is 0. The sheet is only read. The sheet, the buffer and the list may
+ * Pointers. Each must be good for the length given with it, and may be null where that length is 0. The sheet is only read. The sheet, the buffer, the list and the table may
  * not overlap, and no one else may write to any of them during the call: to compact a sheet, lend another buffer than its own.
  *
  * Threads. The library keeps no state between calls or across them: any number of threads may call at once, each with a buffer and a list of its own. Sheets may be
@@ -46,6 +46,16 @@ struct twigmantle_report twigmantle_layout(const uint8_t *sheet, size_t n, uint8
  * the rows rise, and token 0 has a row exactly if it is a placeholder. So after a text count the rows whose token is not 0, and one more if token 0 of the sheet
  * is a placeholder. */
 struct twigmantle_report twigmantle_layout_rows(const uint8_t *sheet, size_t n, uint8_t *text, size_t room, uint32_t *rows, size_t words);
+
+/* The two layout calls again, for long and deep sheets: they read ahead once, into table, a lent list of so many words, and lay out from it. The report, the text and the
+ * rows are those of the plain calls; their time grows with the number of tokens, where a plain call reads the rest of the sheet again at each top-level word and bracket.
+ * The table is scratch: it may hold anything before the call, and is all zero afterwards, whatever the answer.
+ *
+ * Refusal 12 is these calls' alone: fewer than TWIGMANTLE_TABLE_WORDS words for each token of the sheet; after 4, and before 10. A table of TWIGMANTLE_MOST_TABLE words is
+ * never too short. words 0, and table may be null: serves a sheet without tokens. */
+struct twigmantle_report twigmantle_layout_once(const uint8_t *sheet, size_t n, uint8_t *text, size_t room, uint32_t *table, size_t table_words);
+struct twigmantle_report twigmantle_layout_rows_once(const uint8_t *sheet, size_t n, uint8_t *text, size_t room, uint32_t *rows, size_t words, uint32_t *table,
+                                                     size_t table_words);
 
 /* What a call gives back that lays nothing out. refusal 0: place is 0. Otherwise place says where, and length is 0. */
 struct twigmantle_outcome {
@@ -93,7 +103,8 @@ enum twigmantle_refusal {
     TWIGMANTLE_REFUSAL_FOLDED = 8, /* a folded block closed with no unfolded entry left */
     TWIGMANTLE_REFUSAL_ROOM = 9,   /* the working text would be longer than the buffer */
     TWIGMANTLE_REFUSAL_LIST = 10,  /* fewer than TWIGMANTLE_ROW_WORDS words for each placeholder to be laid out; place 0; of twigmantle_layout_rows alone */
-    TWIGMANTLE_REFUSAL_SHEET = 11  /* a buffer shorter than the new sheet; place 0; of twigmantle_compact alone */
+    TWIGMANTLE_REFUSAL_SHEET = 11, /* a buffer shorter than the new sheet; place 0; of twigmantle_compact alone */
+    TWIGMANTLE_REFUSAL_TABLE = 12  /* fewer than TWIGMANTLE_TABLE_WORDS words for each token; place 0; of the calls that read ahead once */
 };
 
 /* A row of the list, by word: where a placeholder's value stands in the text. */
@@ -105,6 +116,8 @@ enum twigmantle_row {
     TWIGMANTLE_ROW_SURVIVED = 4,    /* how many bytes of the value are in the text: white at its ends may have been cut, all of it too */
     TWIGMANTLE_ROW_WORDS = 5
 };
+
+#define TWIGMANTLE_TABLE_WORDS 6 /* of the table, for each token */
 
 #define TWIGMANTLE_ENTRY_OWN 0xffffffffu /* no entry: the token's own value was shown */
 
@@ -127,6 +140,7 @@ enum twigmantle_most {
     TWIGMANTLE_MOST_LINES = 255,  /* word TWIGMANTLE_HEAD_LINES */
     TWIGMANTLE_MOST_DEPTH = 128,  /* entries on the indent stack; open inline blocks */
     TWIGMANTLE_MOST_LIST = 5120,  /* words of a list with a row for each of TWIGMANTLE_MOST_TOKENS */
+    TWIGMANTLE_MOST_TABLE = 6144, /* words of a table for as many tokens */
     TWIGMANTLE_MOST_SHEET = 57904 /* bytes of a sheet with every count at its bound */
 };
 

@@ -45,6 +45,26 @@ mod linked {
             rows: *mut u32,
             words: usize,
         ) -> super::Report;
+        #[cfg(feature = "once")]
+        pub fn twigmantle_layout_once(
+            sheet: *const u8,
+            n: usize,
+            text: *mut u8,
+            room: usize,
+            table: *mut u32,
+            width: usize,
+        ) -> super::Report;
+        #[cfg(feature = "once")]
+        pub fn twigmantle_layout_rows_once(
+            sheet: *const u8,
+            n: usize,
+            text: *mut u8,
+            room: usize,
+            rows: *mut u32,
+            words: usize,
+            table: *mut u32,
+            width: usize,
+        ) -> super::Report;
         #[cfg(feature = "compact")]
         pub fn twigmantle_compact(
             sheet: *const u8,
@@ -74,6 +94,100 @@ pub fn layout_rows(sheet: &[u8], text: &mut [u8], rows: &mut [u32]) -> Report {
             words,
         )
     }
+}
+
+#[cfg(feature = "once")]
+pub fn layout_once(sheet: &[u8], text: &mut [u8], table: &mut [u32]) -> Report {
+    let (n, room, width) = (sheet.len(), text.len(), table.len());
+    // Safe: all three slices are as long as is said, and two are lent to this call alone.
+    unsafe {
+        linked::twigmantle_layout_once(
+            sheet.as_ptr(),
+            n,
+            text.as_mut_ptr(),
+            room,
+            table.as_mut_ptr(),
+            width,
+        )
+    }
+}
+
+#[cfg(feature = "once")]
+fn layout_rows_once(sheet: &[u8], text: &mut [u8], rows: &mut [u32], table: &mut [u32]) -> Report {
+    let (n, room, words, width) = (sheet.len(), text.len(), rows.len(), table.len());
+    // Safe: all four slices are as long as is said, and three are lent to this call alone.
+    unsafe {
+        linked::twigmantle_layout_rows_once(
+            sheet.as_ptr(),
+            n,
+            text.as_mut_ptr(),
+            room,
+            rows.as_mut_ptr(),
+            words,
+            table.as_mut_ptr(),
+            width,
+        )
+    }
+}
+
+/// A lent list of words with painted ones on both sides.
+#[cfg(feature = "rows")]
+struct Lent {
+    words: Vec<u32>,
+    length: usize,
+}
+
+#[cfg(feature = "rows")]
+impl Lent {
+    const BESIDE: usize = 8;
+    const PAINT: u32 = 0xa5a5_5a5a;
+
+    fn new(length: usize) -> Self {
+        Lent { words: vec![Self::PAINT; Self::BESIDE + length + Self::BESIDE], length }
+    }
+
+    fn lent(&mut self) -> &mut [u32] {
+        &mut self.words[Self::BESIDE..Self::BESIDE + self.length]
+    }
+
+    /// What is in it, if the words beside it stayed.
+    fn left(mut self, whose: &str) -> Result<Vec<u32>, String> {
+        let left = self.lent().to_vec();
+        self.lent().fill(Self::PAINT);
+        let stayed = self.words.iter().all(|&word| word == Self::PAINT);
+        stayed.then_some(left).ok_or(format!("a word beside {whose} of {}", self.length))
+    }
+}
+
+/// What the call gives that reads ahead once; its table must be zero afterwards.
+#[cfg(feature = "once")]
+pub fn once(sheet: &[u8], room: usize, table: usize) -> Result<Answer, String> {
+    let mut buffer = vec![PAINT; room + 1];
+    let mut table = Lent::new(table);
+    let report = layout_once(sheet, &mut buffer[..room], table.lent());
+    zero(table)?;
+    read(report, &buffer, room)
+}
+
+/// The same with a list.
+#[cfg(feature = "once")]
+pub fn listed_once(
+    sheet: &[u8],
+    room: usize,
+    words: usize,
+    table: usize,
+) -> Result<Listed, String> {
+    let mut buffer = vec![PAINT; room + 1];
+    let (mut list, mut table) = (Lent::new(words), Lent::new(table));
+    let report = layout_rows_once(sheet, &mut buffer[..room], list.lent(), table.lent());
+    zero(table)?;
+    Ok(Listed { answer: read(report, &buffer, room)?, list: list.left("the list")? })
+}
+
+#[cfg(feature = "once")]
+fn zero(table: Lent) -> Result<(), String> {
+    let left = table.left("the table")?;
+    left.iter().all(|&word| word == 0).then_some(()).ok_or("a table that is not zero".into())
 }
 
 #[cfg(feature = "compact")]
@@ -108,22 +222,17 @@ pub fn answer(sheet: &[u8], room: usize) -> Result<Answer, String> {
 /// must be the first call's; words beside the list must stay.
 #[cfg(feature = "rows")]
 pub fn listed(sheet: &[u8], room: usize, words: usize) -> Result<Listed, String> {
-    const BESIDE: usize = 8;
-    const WORD: u32 = 0xa5a5_5a5a;
     let mut buffer = vec![PAINT; room + 1];
-    let mut list = vec![WORD; BESIDE + words + BESIDE];
-    let report = layout_rows(sheet, &mut buffer[..room], &mut list[BESIDE..BESIDE + words]);
-    let beside = list[..BESIDE].iter().chain(&list[BESIDE + words..]);
-    if beside.into_iter().any(|&word| word != WORD) {
-        return Err(format!("the second call wrote beside a list of {words}: {report:?}"));
-    }
+    let mut list = Lent::new(words);
+    let report = layout_rows(sheet, &mut buffer[..room], list.lent());
+    let list = list.left("the list")?;
     let mut first = vec![PAINT; room + 1];
     let same = layout(sheet, &mut first[..room]) == report && first == buffer;
     if report.refusal != 10 && !same {
         return Err(format!("the second call's report or buffer is not the first's: {report:?}"));
     }
     let answer = read(report, &buffer, room)?;
-    Ok(Listed { answer, list: list[BESIDE..BESIDE + words].to_vec() })
+    Ok(Listed { answer, list })
 }
 
 /// The answer in a report and a painted buffer that is one byte longer than its room.

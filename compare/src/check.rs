@@ -8,7 +8,7 @@ use crate::oracle::{self, Panic, Read};
 use crate::random::{self, Dice, Made, noise, white};
 use crate::sheet::{INLINE_ON, NAMES, Reader, Sheet};
 use crate::watched;
-use crate::{compacted, pointed};
+use crate::{compacted, once, pointed};
 use crate::{show, watched::Height};
 
 #[derive(Default)]
@@ -63,6 +63,8 @@ pub fn run(n: u64, seed: u64) -> bool {
             let pointed = pointed::judged(&made.bytes, &ample)?;
             tally.add("a rows judged by", pointed);
             pointed::call(&made.bytes, &ample, room)?;
+            once::call(&made.bytes, &ample, room)?;
+            once::call(&made.bytes, &ample, peak(&ample.heights))?;
             let new = compacted::judged(&made.bytes, &ample, room)?;
             tally.add("d compacted", new);
             compacted::call(&mut dice, &made.bytes)?;
@@ -87,12 +89,14 @@ pub fn run(n: u64, seed: u64) -> bool {
     }
     tally.print();
     println!("each length from 0 to {} is met {} times or more", noise::LONGEST, least(&lengths));
-    let with = match (cfg!(feature = "call"), cfg!(feature = "rows"), cfg!(feature = "compact")) {
-        (_, _, true) => ", both calls and the compacting too",
-        (_, true, _) => ", both calls too",
-        (true, ..) => ", the call too",
-        _ => "",
-    };
+    let with = [
+        (cfg!(feature = "once"), ", both calls on both engines and the compacting too"),
+        (cfg!(feature = "compact"), ", both calls and the compacting too"),
+        (cfg!(feature = "rows"), ", both calls too"),
+        (cfg!(feature = "call"), ", the call too"),
+        (true, ""),
+    ];
+    let with = with.iter().find(|(linked, _)| *linked).map_or("", |(_, said)| said);
     println!("{n} sheets, seed {seed}{with}: no difference");
     true
 }

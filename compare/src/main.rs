@@ -7,6 +7,7 @@ mod call;
 mod check;
 mod compacted;
 mod model;
+mod once;
 mod oracle;
 mod pointed;
 mod random;
@@ -77,6 +78,7 @@ compare starred
 compare answers N SEED FILE
 compare samples FOLDER
 compare speed SEED [PART] (built with --profile speed --features call)
+compare plot SEED FILE (the same, with --features once)
 compare search N SEED (the same)";
 
 fn main() -> ExitCode {
@@ -113,6 +115,8 @@ fn run(words: &[&str]) -> Option<bool> {
         ["speed", seed] => Some(speed::run(seed.parse().ok()?, "")),
         #[cfg(feature = "call")]
         ["speed", seed, part] => Some(speed::run(seed.parse().ok()?, part)),
+        #[cfg(feature = "once")]
+        ["plot", seed, file] => Some(speed::once::run(seed.parse().ok()?, "", Some(file))),
         #[cfg(feature = "call")]
         ["search", n, seed] => Some(speed::search::run(n.parse().ok()?, seed.parse().ok()?)),
         ["starred"] => Some(starred::run()),

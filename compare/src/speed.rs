@@ -11,6 +11,8 @@ use crate::sheet::{Sheet, in_turn};
 use shapes::{Maker, SHAPES};
 
 mod costly;
+#[cfg(feature = "once")]
+pub mod once;
 #[cfg(feature = "rows")]
 mod rows;
 pub mod search;
@@ -46,6 +48,8 @@ pub fn run(seed: u64, part: &str) -> bool {
     clearing();
     #[cfg(feature = "rows")]
     rows::run(seed, part);
+    #[cfg(feature = "once")]
+    once::run(seed, part, None);
     true
 }
 

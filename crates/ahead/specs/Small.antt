@@ -57,11 +57,14 @@ scan-small s base n o (suc k) j m a r h b =
     (widens o m (m + suc k) a (omega arith) b)
     (rw e (scan-small s base n o k (suc j) (m + 1) next r (omega arith) (grows o m (length (t .value)) (sortIn t) a b l)))
 
+-- all that is read after token i of n
+pub read-small : (s : List ℕ) (base n i o : ℕ) → Readable s base n → i < n → Small o 1024 (scan o (hereAt s base n i .after) (unread o))
+read-small s base n i o r h =
+    let f = r .placed .few in
+    let b = scan-small s base n o (n - (i + 1)) (i + 1) 0 (unread o) r (omega arith) (record { level = omega arith; full-span = omega arith; blocks = omega arith; arguments = omega arith }) in
+    widens o (0 + (n - (i + 1))) 1024 _ (omega arith) b
+
 -- a span is at most 64 MiB long, so that a length can be added to it
 pub span-short : (op : FormatOptions) (s : List ℕ) (base n i level blockLen : ℕ) → Readable s base n → i < n → topLevelTokensInfo op level blockLen (hereAt s base n i .after) .«full_span» ≤ 67108864
 unfolding topLevelTokensInfo
-span-short op s base n i level blockLen r h =
-    let f = r .placed .few in
-    let b = scan-small s base n level (n - (i + 1)) (i + 1) 0 (unread level) r (omega arith) (record { level = omega arith; full-span = omega arith; blocks = omega arith; arguments = omega arith }) in
-    let c = b .full-span in
-    omega arith
+span-short op s base n i level blockLen r h = read-small s base n i level r h .full-span

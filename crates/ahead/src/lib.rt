@@ -66,7 +66,7 @@ fn operator_sort(sheet: &[u8], base: usize, i: usize) -> Sort
 }
 
 // Only an operator's value is looked at.
-fn sort_at(sheet: &[u8], base: usize, i: usize) -> Sort
+pub fn sort_at(sheet: &[u8], base: usize, i: usize) -> Sort
     requires { ⌜ Within (now sheet) base i ⌝ }
     ensures { λ r. ⌜ r ≡ sortIn (tokenOf (now (sheet .entry)) base i) ⌝ }
 {
@@ -190,7 +190,7 @@ fn breaks_before(limit: u32, block_len: u32) -> bool
     limit < block_len
 }
 
-fn span_of(options: FormatOptions, block_len: u32, a: Scan) -> SpanInfo
+pub fn span_of(options: FormatOptions, block_len: u32, a: Scan) -> SpanInfo
     ensures { λ r. ⌜ r ≡ spanOf options «block_len» a ⌝ }
 {
     let top = options.max_inline_top_level;

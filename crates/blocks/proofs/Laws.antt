@@ -24,6 +24,7 @@ use Rattle.rules.specs.Sheet.{tokenOf, tokensFrom, hereAt}
 use Rattle.rules.specs.InlineBlock.{partOf, isTop, isNewline, closesAt, levelAfter, measuredIn, measured, isForbiddenToken, forbid, buildFrom, unbuilt, buildInfo, isInlineBlock}
 use Rattle.around.specs.Readable.{Readable}
 use Rattle.around.specs.Lists.{tokens-step, tokens-none, readable-length}
+use Rattle.blocks.specs.Built.{build-none, build-stop, build-go}
 use Rattle.blocks.specs.Topped.{toppedOf}
 
 -- ---- the part of a kind that the match leaves to its last arm
@@ -67,18 +68,6 @@ grows k n part.Comment f b h l = record { len = omega arith; level = omega arith
 grows k n part.Rest f b h l = record { len = omega arith; level = omega arith }
 
 -- ---- one token of the block
-
-build-none : (b : BlockInfo) → buildFrom [] b ≡ b
-unfolding buildFrom
-build-none b = refl
-
-build-stop : (t : Token) (ts : List Token) (b : BlockInfo) → closesAt (partOf (t .kind)) (measured t b .level) ≡ true → buildFrom (t ∷ ts) b ≡ measured t b
-unfolding buildFrom
-build-stop t ts b h = rw h
-
-build-go : (t : Token) (ts : List Token) (b : BlockInfo) → closesAt (partOf (t .kind)) (measured t b .level) ≡ false → buildFrom (t ∷ ts) b ≡ buildFrom ts (forbid (isForbiddenToken t) (measured t b))
-unfolding buildFrom
-build-go t ts b h = rw h
 
 -- the whole block, from token i of n on
 abbrev pub blockAt : List ℕ → ℕ → ℕ → ℕ → BlockInfo

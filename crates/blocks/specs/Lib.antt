@@ -1,1 +1,2 @@
 pub mod Topped
+pub mod Built

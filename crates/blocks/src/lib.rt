@@ -20,7 +20,7 @@ use rules::Start;
 use rules::TokenKind;
 use tokens::kind_at;
 
-fn part_of(kind: TokenKind) -> Part
+pub fn part_of(kind: TokenKind) -> Part
     ensures { λ r. ⌜ r ≡ partOf kind ⌝ }
 {
     match kind {
@@ -35,7 +35,7 @@ fn part_of(kind: TokenKind) -> Part
     }
 }
 
-fn is_top(part: Part) -> bool
+pub fn is_top(part: Part) -> bool
     ensures { λ r. ⌜ r ≡ isTop part ⌝ }
 {
     match part {
@@ -48,7 +48,7 @@ fn is_top(part: Part) -> bool
     }
 }
 
-fn is_newline(part: Part) -> bool
+pub fn is_newline(part: Part) -> bool
     ensures { λ r. ⌜ r ≡ isNewline part ⌝ }
 {
     match part {
@@ -74,7 +74,7 @@ fn is_comment(part: Part) -> bool
     }
 }
 
-fn level_after(part: Part, level: u32) -> u32
+pub fn level_after(part: Part, level: u32) -> u32
     requires { ⌜ level < 65536 ⌝ }
     ensures { λ r. ⌜ r ≡ levelAfter part level ⌝ }
 {
@@ -174,7 +174,7 @@ fn found_yet(before: bool, here: bool) -> bool
     here
 }
 
-fn is_forbidden_token(sheet: &[u8], base: usize, i: usize, part: Part) -> bool
+pub fn is_forbidden_token(sheet: &[u8], base: usize, i: usize, part: Part) -> bool
     requires { ⌜ Within (now sheet) base i ⌝ }
     requires { ⌜ part ≡ partOf (tokenAt (now sheet) i .kind) ⌝ }
     ensures { λ r. ⌜ r ≡ isForbiddenToken (tokenOf (now (sheet .entry)) base i) ⌝ }

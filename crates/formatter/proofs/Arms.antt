@@ -24,6 +24,7 @@ use Rattle.rules.specs.declared.SpanInfo.{SpanInfo}
 use Rattle.rules.specs.declared.BlockInfo.{BlockInfo}
 use Rattle.rules.specs.Span.{topLevelTokensInfo}
 use Rattle.rules.specs.InlineBlock.{buildInfo, curLen}
+use Rattle.table.specs.Facts.{SameFacts, opens-alike}
 use Rattle.inline_block.specs.Of.{inlineBlockOf}
 use Rattle.text.specs.declared.Text.{Text as CodeText}
 use Rattle.state.specs.declared.State.{State as Code}
@@ -33,8 +34,8 @@ use Rattle.state.specs.Of.{stateOf, withText, Ready, envIn, hereIn, Handled, gi
 use Rattle.formatter.specs.Run.{tokenRule, changesKind, changesIn, kindIn}
 
 -- a bracket's block, from the bracket on
-abbrev blockInfo : Env → Here → State → BlockInfo
-blockInfo e h u = buildInfo (h .token ∷ h .after)
+abbrev blockInfo : Here → BlockInfo
+blockInfo h = buildInfo (h .token ∷ h .after)
 
 pub false-true : {A : Type 0} → false ≡ true → A
 false-true e = absurd (let z : _≡_ {A = ℕ} 0 1 = cc in omega arith)
@@ -243,9 +244,12 @@ module _ (s : List ℕ) (x : Context) (i : ℕ) (st : Code) (d : List ℕ) (read
       unfolding formatToken
       by-reserved e h = laid (by-kind kind.Reserved formatReserved r q e (λ v h u. refl) h)
 
-      pub by-opening : (info : BlockInfo) → info ≡ blockInfo (envIn s x (length d)) (hereIn s x i) (stateOf s (x .base) st d) → k ≡ kind.OpenParen → Handled s x i (given formatOpeningParentheses info) st d r q → Handled s x i (takenAs t) st d r q
+      pub by-opening : (info : BlockInfo) → SameFacts info (blockInfo (hereIn s x i)) → k ≡ kind.OpenParen → Handled s x i (given formatOpeningParentheses info) st d r q → Handled s x i (takenAs t) st d r q
       unfolding formatToken
-      by-opening info ei e h = laid (by-given kind.OpenParen formatOpeningParentheses blockInfo info r q e (λ v w u. refl) ei h)
+      by-opening info facts e h =
+          laid
+          (by-kind kind.OpenParen (λ v w u. formatOpeningParentheses v w (blockInfo w) u) r q e (λ v w u. refl)
+          (record { room = h .room; steady = h .steady; state = h .state ∙ opens-alike (envIn s x (length d)) (hereIn s x i) info (blockInfo (hereIn s x i)) (stateOf s (x .base) st d) facts }))
 
       pub by-closing : k ≡ kind.CloseParen → Handled s x i formatClosingParentheses st d r q → Handled s x i (takenAs t) st d r q
       unfolding formatToken

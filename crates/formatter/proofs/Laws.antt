@@ -1,12 +1,14 @@
 -- The run over the tokens, step by step. Assumes nothing.
 use mathlib.Core.Path.{_≡_, sym, ap, _∙_}
 use mathlib.Core.List.{List, [], map}
+use mathlib.Core.Bool.{Bool}
 use Prim.Native.Nat.{ℕ, _+_, _-_, _^_, _≤_, _<_}
 use native.Mathlib.Omega.{arith}
 use lib.ListN.{length, take, drop}
 use Rattle.rules.specs.declared.TokenKind.{TokenKind}
 use Rattle.rules.specs.declared.Turn.{Turn}
 use Rattle.rules.specs.declared.Turn.the-variants as turn
+use Rattle.rules.specs.declared.Sort.the-variants as sort
 use Rattle.rules.specs.declared.Report.{Report}
 use Rattle.rules.specs.Text.{fits, refused, mark, bytesIn, change, isWhite, trimEnd, trimmed, lines, width}
 use Rattle.rules.proofs.Short.{Short, sheet-short}
@@ -16,6 +18,8 @@ use Rattle.rules.specs.Base.{_▹_}
 use Rattle.rules.specs.Rows.{Row, clip, shift, trimRow}
 use Rattle.rows.specs.Listing.{rowsIn, listing}
 use Rattle.rules.specs.Sheet.{tokenOf}
+use Rattle.rules.specs.Span.{sortOf, sortIn}
+use Rattle.ahead.proofs.Laws.{by-sort}
 use Rattle.rules.specs.Indentation.{noIndentation}
 use Rattle.rules.specs.State.{State, start, onText}
 use Rattle.rules.specs.Switch.{turnOf, switchAfter, switchedOn}
@@ -69,6 +73,10 @@ level-few s x i level known here h = let f = known .sheeted .few .tokens in omeg
 -- how it is taken
 pub turn-is : (s : List ℕ) (x : Context) (i : ℕ) (w : CodeSwitch) (v : Value) (k : TokenKind) (t : Turn) → v ≡ valueIn s x i → k ≡ kindIn s x i → t ≡ turnOf (switchOf w) k (take (v .len) (drop (v .start) s)) → t ≡ turnAt s (x .base) i (switchOf w)
 turn-is s x i w v k t ev ek et = et ∙ rw (ek, value-is s x i v ev)
+
+-- a kind that is always a top-level word
+pub head-is : (s : List ℕ) (base i : ℕ) (k j : TokenKind) → ((semicolon comma : Bool) → sortOf j semicolon comma ≡ sort.Head) → k ≡ tokenOf s base i .kind → k ≡ j → sortIn (tokenOf s base i) ≡ sort.Head
+head-is s base i k j heads told e = sym (by-sort (tokenOf s base i) k told j e) ∙ heads _ _
 
 pub by-step : (s : List ℕ) (x : Context) (i : ℕ) (st : Code) (w : CodeSwitch) (d : List ℕ) (t : Turn) (r : Code) (u : CodeSwitch) (q : List ℕ) (m : CodeText)
     → t ≡ turnAt s (x .base) i (switchOf w) → switchOf u ≡ switchAfter t (switchOf w) → Handled s x i (takenAs t) (withText st m) d r q → m ≡ marked (st .text) → Stepped s x i st w d r u q

@@ -1,14 +1,19 @@
 // formatter.rs, `format`: every token in turn, by the fmt switch and its kind.
 ghost use mathlib.Core.Path.{_≡_};
 ghost use mathlib.Core.Bool.{true, false};
-ghost use mathlib.Core.List.{map};
+ghost use mathlib.Core.List.{_∷_, map};
 ghost use Prim.Native.Nat.{ℕ, _*_, _^_, _≤_, _<_};
 ghost use lib.ListN.{length};
 ghost use Rattle.rules.specs.Text.{bytesIn, trimmed};
-ghost use Rattle.rules.specs.Sheet.{tokensOf};
+ghost use Rattle.rules.specs.declared.TokenKind.the-variants as kind;
+ghost use Rattle.rules.specs.declared.Sort.the-variants as sort;
+ghost use Rattle.rules.specs.Sheet.{tokenOf, tokensOf};
 ghost use Rattle.rules.specs.Rows.{trimRow, placeholders};
 ghost use Rattle.rows.specs.Listing.{rowsIn, listing, Words};
-ghost use Rattle.rules.specs.Span.{topLevelTokensInfo};
+ghost use Rattle.rules.specs.Span.{sortIn, topLevelTokensInfo};
+ghost use Rattle.rules.specs.InlineBlock.{buildInfo};
+ghost use Rattle.table.specs.Table.{Filled};
+ghost use Rattle.table.specs.Facts.{SameFacts};
 ghost use Rattle.rules.specs.Answer.{takenAs};
 ghost use Rattle.state.specs.Of.{Known, Ready, Handled, withText, hereIn};
 ghost use Rattle.formatter.specs.Run.{tokenRule, changesKind, changesIn, Begun, answerIn, listIn, kindIn};
@@ -20,6 +25,7 @@ use around::is_byte;
 use fmt_switch::Switch;
 use indentation::Indentation;
 use inline_block::InlineBlock;
+use rules::BlockInfo;
 use rules::Report;
 use rules::SpanInfo;
 use rules::TokenKind;
@@ -143,26 +149,58 @@ fn finish(query: &mut [u8], rows: &mut [u32], count: usize, t: Text) -> Report
     }
 }
 
-// The span of a top-level word, block_len being the length of the inline block around it.
-fn span_info(sheet: &[u8], x: Context, i: usize, level: u32, block_len: u32) -> SpanInfo
+// The span of a top-level word, block_len being the length of the inline block around it. A filled table has it; else it is read ahead.
+fn span_info(
+    sheet: &[u8],
+    x: Context,
+    i: usize,
+    level: u32,
+    block_len: u32,
+    table: &[u32],
+    with_table: bool,
+) -> SpanInfo
     requires { ⌜ (Known (now sheet) x) × (i < x .counts .tokens) × (level ≤ i) ⌝ }
+    requires { ⌜ sortIn (tokenOf (now sheet) (x .base) i) ≡ sort.Head ⌝ }
+    requires { ⌜ («with_table» ≡ true → Filled (now sheet) (x .base) (x .counts .tokens) (now table)) ⌝ }
     ensures { λ r. ⌜ r ≡ topLevelTokensInfo (x .options) level «block_len» (hereIn (now (sheet .entry)) x i .after) ⌝ }
 {
     let c = x.counts;
     let o = x.options;
-    top_level_tokens_info(sheet, x.base, c.tokens, i, level, o, block_len)
+    let n = c.tokens;
+    if with_table {
+        return table::top_level_tokens_info(table, sheet, x.base, n, i, level, o, block_len);
+    }
+    top_level_tokens_info(sheet, x.base, n, i, level, o, block_len)
 }
 
-// Without `with_rows` no row is kept.
+// The same for the block of an opening bracket.
+fn block_info(sheet: &[u8], x: Context, i: usize, table: &[u32], with_table: bool) -> BlockInfo
+    requires { ⌜ (Known (now sheet) x) × (i < x .counts .tokens) ⌝ }
+    requires { ⌜ kindIn (now sheet) x i ≡ kind.OpenParen ⌝ }
+    requires { ⌜ («with_table» ≡ true → Filled (now sheet) (x .base) (x .counts .tokens) (now table)) ⌝ }
+    ensures { λ r. ⌜ SameFacts r (buildInfo (hereIn (now (sheet .entry)) x i .token ∷ hereIn (now (sheet .entry)) x i .after)) ⌝ }
+{
+    let c = x.counts;
+    let n = c.tokens;
+    if with_table {
+        return table::build_info(table, sheet, x.base, n, i);
+    }
+    blocks::build_info(sheet, x.base, n, i)
+}
+
+// Without `with_rows` no row is kept. With `with_table` what is read ahead comes from the table.
 pub fn format(
     query: &mut [u8],
     rows: &mut [u32],
     with_rows: bool,
     sheet: &[u8],
     x: Context,
+    table: &[u32],
+    with_table: bool,
 ) -> Report
     requires { ⌜ Known (now sheet) x ⌝ }
     requires { ⌜ («with_rows» ≡ true → 5 * placeholders (tokensOf (now sheet) (x .counts)) ≤ length (now rows)) ⌝ }
+    requires { ⌜ («with_table» ≡ true → Filled (now sheet) (x .base) (x .counts .tokens) (now table)) ⌝ }
     ensures { λ r. ⌜ r ≡ reportOf (answerIn (now (sheet .entry)) x (length (now (query .entry)))) ⌝ }
     ensures { λ r. ⌜ now (query .exit) ≡ bufferOf (length (now (query .entry))) (answerIn (now (sheet .entry)) x (length (now (query .entry)))) ⌝ }
     ensures { λ r. ⌜ now (rows .exit) ≡ listIn (now (sheet .entry)) x (length (now (query .entry))) «with_rows» (length (now (rows .entry))) ⌝ }
@@ -187,12 +225,14 @@ pub fn format(
             match kind {
                 TokenKind::ReservedTopLevel => {
                     let inline = s.inline_block;
-                    let span = span_info(sheet, x, i, s.block_level, inline.cur_len());
+                    let len = inline.cur_len();
+                    let span = span_info(sheet, x, i, s.block_level, len, table, with_table);
                     s = top_level::format_top_level_reserved_word(query, s, sheet, x, i, span);
                 }
                 TokenKind::ReservedTopLevelNoIndent => {
                     let inline = s.inline_block;
-                    let span = span_info(sheet, x, i, s.block_level, inline.cur_len());
+                    let len = inline.cur_len();
+                    let span = span_info(sheet, x, i, s.block_level, len, table, with_table);
                     s = top_level::format_top_level_reserved_word_no_indent(
                         query,
                         s,
@@ -204,7 +244,8 @@ pub fn format(
                 }
                 TokenKind::ReservedNewlineAfter => {
                     let inline = s.inline_block;
-                    let span = span_info(sheet, x, i, s.block_level, inline.cur_len());
+                    let len = inline.cur_len();
+                    let span = span_info(sheet, x, i, s.block_level, len, table, with_table);
                     s = top_level::format_newline_after_reserved_word(query, s, sheet, x, i, span);
                 }
                 TokenKind::ReservedNewline => {
@@ -214,7 +255,7 @@ pub fn format(
                     s = reserved::format_reserved(query, s, sheet, x, i);
                 }
                 TokenKind::OpenParen => {
-                    let info = blocks::build_info(sheet, x.base, n, i);
+                    let info = block_info(sheet, x, i, table, with_table);
                     s = brackets::format_opening_parentheses(query, s, sheet, x, i, info);
                 }
                 TokenKind::CloseParen => {

@@ -1,6 +1,6 @@
 // What the desk's host calls: any bytes, any buffer, any list.
 ghost use mathlib.Core.Path.{_≡_};
-ghost use mathlib.Core.Bool.{true, _&&_};
+ghost use mathlib.Core.Bool.{true, false, _&&_};
 ghost use Prim.Native.Nat.{_*_, _≤_};
 ghost use lib.ListN.{length, replicate};
 ghost use Rattle.rules.specs.declared.Checked.the-variants as found;
@@ -14,7 +14,10 @@ ghost use Rattle.rules.specs.Shown.{Pointed};
 ghost use Rattle.rules.specs.Compacted.{refusal as unwritten, compact as compactOf, outcomeOf, bufferWith, Compacts};
 ghost use Rattle.records.specs.Sheeted.{Sheeted};
 ghost use Rattle.head.specs.Head.{headWritten, headReturned};
+ghost use Rattle.rules.specs.Words.{bodyAt};
+ghost use Rattle.table.specs.Table.{Filled};
 ghost use Rattle.twigmantle.specs.Called.{calledAs, listCalled};
+ghost use Rattle.twigmantle.specs.Once.{lacksTable, onceAs, listOnceAs, once, onceListed, onceList};
 use rules::Checked;
 use rules::Counts;
 use rules::Outcome;
@@ -40,9 +43,18 @@ fn refused(text: &mut [u8], rows: &mut [u32], number: u32, place: usize) -> Repo
 }
 
 // A sheet that checks 1 to 4 found sound.
-fn laid_out(sheet: &[u8], text: &mut [u8], rows: &mut [u32], with_rows: bool, c: Counts) -> Report
+fn laid_out(
+    sheet: &[u8],
+    text: &mut [u8],
+    rows: &mut [u32],
+    with_rows: bool,
+    table: &[u32],
+    with_table: bool,
+    c: Counts,
+) -> Report
     requires { ⌜ Sheeted (now sheet) c ⌝ }
     requires { ⌜ («with_rows» ≡ true → 5 * placeholdersOf (tokensOf (now sheet) c) ≤ length (now rows)) ⌝ }
+    requires { ⌜ («with_table» ≡ true → Filled (now sheet) (bodyAt c) (c .tokens) (now table)) ⌝ }
     ensures { λ r. ⌜ r ≡ reportOf (format (envOf (now (sheet .entry)) c (length (now (text .entry)))) (tokensOf (now (sheet .entry)) c)) ⌝ }
     ensures { λ r. ⌜ now (text .exit) ≡ bufferOf (length (now (text .entry))) (format (envOf (now (sheet .entry)) c (length (now (text .entry)))) (tokensOf (now (sheet .entry)) c)) ⌝ }
     ensures { λ r. ⌜ now (rows .exit) ≡ (if «with_rows» then listFor (length (now (rows .entry))) (rowsOf (envOf (now (sheet .entry)) c (length (now (text .entry)))) (tokensOf (now (sheet .entry)) c)) (format (envOf (now (sheet .entry)) c (length (now (text .entry)))) (tokensOf (now (sheet .entry)) c)) else replicate (length (now (rows .entry))) 0) ⌝ }
@@ -54,7 +66,7 @@ fn laid_out(sheet: &[u8], text: &mut [u8], rows: &mut [u32], with_rows: bool, c:
         base,
         options,
     };
-    formatter::format(text, rows, with_rows, sheet, x)
+    formatter::format(text, rows, with_rows, sheet, x, table, with_table)
 }
 
 // Whether rows are asked for, and the list has too few words.
@@ -68,8 +80,17 @@ fn is_short(sheet: &[u8], words: usize, with_rows: bool, c: Counts) -> bool
     false
 }
 
-fn sound(sheet: &[u8], text: &mut [u8], rows: &mut [u32], with_rows: bool, c: Counts) -> Report
+fn sound(
+    sheet: &[u8],
+    text: &mut [u8],
+    rows: &mut [u32],
+    with_rows: bool,
+    table: &[u32],
+    with_table: bool,
+    c: Counts,
+) -> Report
     requires { ⌜ Sheeted (now sheet) c ⌝ }
+    requires { ⌜ («with_table» ≡ true → Filled (now sheet) (bodyAt c) (c .tokens) (now table)) ⌝ }
     ensures { λ r. ⌜ r ≡ reportOf (calledAs (now (sheet .entry)) (length (now (text .entry))) «with_rows» (length (now (rows .entry))) (found.Sound c)) ⌝ }
     ensures { λ r. ⌜ now (text .exit) ≡ bufferOf (length (now (text .entry))) (calledAs (now (sheet .entry)) (length (now (text .entry))) «with_rows» (length (now (rows .entry))) (found.Sound c)) ⌝ }
     ensures { λ r. ⌜ now (rows .exit) ≡ listCalled (now (sheet .entry)) (length (now (text .entry))) «with_rows» (length (now (rows .entry))) (found.Sound c) ⌝ }
@@ -78,23 +99,77 @@ fn sound(sheet: &[u8], text: &mut [u8], rows: &mut [u32], with_rows: bool, c: Co
     if is_short(sheet, words, with_rows, c) {
         return refused(text, rows, 10, 0);
     }
-    laid_out(sheet, text, rows, with_rows, c)
+    laid_out(sheet, text, rows, with_rows, table, with_table, c)
 }
 
-// One way for every layout call: without rows the list is scratch.
-fn called(sheet: &[u8], text: &mut [u8], rows: &mut [u32], with_rows: bool) -> Report
-    ensures { λ r. ⌜ r ≡ reportOf (calledAs (now (sheet .entry)) (length (now (text .entry))) «with_rows» (length (now (rows .entry))) (checked (now (sheet .entry)))) ⌝ }
-    ensures { λ r. ⌜ now (text .exit) ≡ bufferOf (length (now (text .entry))) (calledAs (now (sheet .entry)) (length (now (text .entry))) «with_rows» (length (now (rows .entry))) (checked (now (sheet .entry)))) ⌝ }
-    ensures { λ r. ⌜ now (rows .exit) ≡ listCalled (now (sheet .entry)) (length (now (text .entry))) «with_rows» (length (now (rows .entry))) (checked (now (sheet .entry))) ⌝ }
+// With a table it is filled first, if it is long enough.
+fn tabled(
+    sheet: &[u8],
+    text: &mut [u8],
+    rows: &mut [u32],
+    with_rows: bool,
+    table: &mut [u32],
+    with_table: bool,
+    c: Counts,
+) -> Report
+    requires { ⌜ Sheeted (now sheet) c ⌝ }
+    ensures { λ r. ⌜ length (now (table .exit)) ≡ length (now (table .entry)) ⌝ }
+    ensures { λ r. ⌜ r ≡ reportOf (onceAs «with_table» (length (now (table .entry))) (found.Sound c) (calledAs (now (sheet .entry)) (length (now (text .entry))) «with_rows» (length (now (rows .entry))) (found.Sound c))) ⌝ }
+    ensures { λ r. ⌜ now (text .exit) ≡ bufferOf (length (now (text .entry))) (onceAs «with_table» (length (now (table .entry))) (found.Sound c) (calledAs (now (sheet .entry)) (length (now (text .entry))) «with_rows» (length (now (rows .entry))) (found.Sound c))) ⌝ }
+    ensures { λ r. ⌜ now (rows .exit) ≡ listOnceAs «with_table» (length (now (table .entry))) (found.Sound c) (length (now (rows .entry))) (listCalled (now (sheet .entry)) (length (now (text .entry))) «with_rows» (length (now (rows .entry))) (found.Sound c)) ⌝ }
+{
+    if !with_table {
+        return sound(sheet, text, rows, with_rows, table, false, c);
+    }
+    let n = c.tokens;
+    if table.len() < 6 * n {
+        return refused(text, rows, 12, 0);
+    }
+    let base = records::body_at(c);
+    table_fill::fill(table, sheet, base, n);
+    sound(sheet, text, rows, with_rows, table, true, c)
+}
+
+fn answered(
+    sheet: &[u8],
+    text: &mut [u8],
+    rows: &mut [u32],
+    with_rows: bool,
+    table: &mut [u32],
+    with_table: bool,
+) -> Report
+    ensures { λ r. ⌜ length (now (table .exit)) ≡ length (now (table .entry)) ⌝ }
+    ensures { λ r. ⌜ r ≡ reportOf (onceAs «with_table» (length (now (table .entry))) (checked (now (sheet .entry))) (calledAs (now (sheet .entry)) (length (now (text .entry))) «with_rows» (length (now (rows .entry))) (checked (now (sheet .entry))))) ⌝ }
+    ensures { λ r. ⌜ now (text .exit) ≡ bufferOf (length (now (text .entry))) (onceAs «with_table» (length (now (table .entry))) (checked (now (sheet .entry))) (calledAs (now (sheet .entry)) (length (now (text .entry))) «with_rows» (length (now (rows .entry))) (checked (now (sheet .entry))))) ⌝ }
+    ensures { λ r. ⌜ now (rows .exit) ≡ listOnceAs «with_table» (length (now (table .entry))) (checked (now (sheet .entry))) (length (now (rows .entry))) (listCalled (now (sheet .entry)) (length (now (text .entry))) «with_rows» (length (now (rows .entry))) (checked (now (sheet .entry)))) ⌝ }
 {
     let found = checks::check(sheet);
     match found {
-        Checked::Sound(c) => sound(sheet, text, rows, with_rows, c),
+        Checked::Sound(c) => tabled(sheet, text, rows, with_rows, table, with_table, c),
         Checked::Size => refused(text, rows, 1, 0),
         Checked::Word(p) => refused(text, rows, 2, p),
         Checked::Place(p) => refused(text, rows, 3, p),
         Checked::Byte(p) => refused(text, rows, 4, p),
     }
+}
+
+// One way for every layout call: without rows the list is scratch, and so is a table.
+fn called(
+    sheet: &[u8],
+    text: &mut [u8],
+    rows: &mut [u32],
+    with_rows: bool,
+    table: &mut [u32],
+    with_table: bool,
+) -> Report
+    ensures { λ r. ⌜ now (table .exit) ≡ replicate (length (now (table .entry))) 0 ⌝ }
+    ensures { λ r. ⌜ r ≡ reportOf (onceAs «with_table» (length (now (table .entry))) (checked (now (sheet .entry))) (calledAs (now (sheet .entry)) (length (now (text .entry))) «with_rows» (length (now (rows .entry))) (checked (now (sheet .entry))))) ⌝ }
+    ensures { λ r. ⌜ now (text .exit) ≡ bufferOf (length (now (text .entry))) (onceAs «with_table» (length (now (table .entry))) (checked (now (sheet .entry))) (calledAs (now (sheet .entry)) (length (now (text .entry))) «with_rows» (length (now (rows .entry))) (checked (now (sheet .entry))))) ⌝ }
+    ensures { λ r. ⌜ now (rows .exit) ≡ listOnceAs «with_table» (length (now (table .entry))) (checked (now (sheet .entry))) (length (now (rows .entry))) (listCalled (now (sheet .entry)) (length (now (text .entry))) «with_rows» (length (now (rows .entry))) (checked (now (sheet .entry)))) ⌝ }
+{
+    let r = answered(sheet, text, rows, with_rows, table, with_table);
+    rows::clear(table);
+    r
 }
 
 // The layout call: the answer in numbers, and in the buffer the text and zero after it, or zero alone; a text that is laid out is faithful (demand 3).
@@ -104,8 +179,9 @@ pub extern "C" fn twigmantle_layout(sheet: &[u8], text: &mut [u8]) -> Report
     ensures { λ r. ⌜ now (text .exit) ≡ bufferAfter (now (sheet .entry)) (length (now (text .entry))) ⌝ }
     ensures { λ r. ⌜ Faithful (now (sheet .entry)) r (now (text .exit)) ⌝ }
 {
+    let mut list: [u32; 1] = [0; 1];
     let mut none: [u32; 1] = [0; 1];
-    called(sheet, text, &mut none, false)
+    called(sheet, text, &mut list, false, &mut none, false)
 }
 
 // The layout call with a list: five words for each placeholder that was laid out, and zero after them, or zero alone.
@@ -117,7 +193,38 @@ pub extern "C" fn twigmantle_layout_rows(sheet: &[u8], text: &mut [u8], rows: &m
     ensures { λ r. ⌜ Faithful (now (sheet .entry)) r (now (text .exit)) ⌝ }
     ensures { λ r. ⌜ Pointed (now (sheet .entry)) r (now (text .exit)) (now (rows .exit)) ⌝ }
 {
-    called(sheet, text, rows, true)
+    let mut none: [u32; 1] = [0; 1];
+    called(sheet, text, rows, true, &mut none, false)
+}
+
+// The layout call that reads ahead once, into a table that is zero afterwards: the same answer, but for refusal 12.
+#[no_mangle]
+pub extern "C" fn twigmantle_layout_once(sheet: &[u8], text: &mut [u8], table: &mut [u32]) -> Report
+    ensures { λ r. ⌜ r ≡ reportOf (once (now (sheet .entry)) (length (now (text .entry))) (length (now (table .entry)))) ⌝ }
+    ensures { λ r. ⌜ now (text .exit) ≡ bufferOf (length (now (text .entry))) (once (now (sheet .entry)) (length (now (text .entry))) (length (now (table .entry)))) ⌝ }
+    ensures { λ r. ⌜ now (table .exit) ≡ replicate (length (now (table .entry))) 0 ⌝ }
+    ensures { λ r. ⌜ Faithful (now (sheet .entry)) r (now (text .exit)) ⌝ }
+{
+    let mut list: [u32; 1] = [0; 1];
+    called(sheet, text, &mut list, false, table, true)
+}
+
+// The same with a list.
+#[no_mangle]
+pub extern "C" fn twigmantle_layout_rows_once(
+    sheet: &[u8],
+    text: &mut [u8],
+    rows: &mut [u32],
+    table: &mut [u32],
+) -> Report
+    ensures { λ r. ⌜ r ≡ reportOf (onceListed (now (sheet .entry)) (length (now (text .entry))) (length (now (rows .entry))) (length (now (table .entry)))) ⌝ }
+    ensures { λ r. ⌜ now (text .exit) ≡ bufferOf (length (now (text .entry))) (onceListed (now (sheet .entry)) (length (now (text .entry))) (length (now (rows .entry))) (length (now (table .entry)))) ⌝ }
+    ensures { λ r. ⌜ now (rows .exit) ≡ onceList (now (sheet .entry)) (length (now (text .entry))) (length (now (rows .entry))) (length (now (table .entry))) ⌝ }
+    ensures { λ r. ⌜ now (table .exit) ≡ replicate (length (now (table .entry))) 0 ⌝ }
+    ensures { λ r. ⌜ Faithful (now (sheet .entry)) r (now (text .exit)) ⌝ }
+    ensures { λ r. ⌜ ((lacksTable (length (now (table .entry))) (checked (now (sheet .entry))) ≡ false) → Pointed (now (sheet .entry)) r (now (text .exit)) (now (rows .exit))) ⌝ }
+{
+    called(sheet, text, rows, true, table, true)
 }
 
 // A refusal of a call that lays nothing out.

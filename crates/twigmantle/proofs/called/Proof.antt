@@ -1,42 +1,12 @@
-use denote.Ref.{now}
-use Rattle.checks.specs.Sound.{answer-sheeted}
-use Rattle.twigmantle.proofs.Laws.{by-found, by-size, by-word, by-place, by-byte}
 use borrow.Author.Needs.{needs}
 use Rattle.twigmantle.proofs.called.Statement.{statement}
 use Rattle.twigmantle.proofs.called.Tie as tie
 
-check-requires : tie.Need-check-requires
-check-requires c κs = search needs
+answered-requires : tie.Need-answered-requires
+answered-requires c κs = search needs
 
-enum-known-found : tie.Need-enum-known-found
-enum-known-found c = search needs
-
-sound-requires : tie.Need-sound-requires
-sound-requires c κs = search (needs, answer-sheeted)
-
-enum-told : tie.Need-enum-told
-enum-told c = search needs
-
-refused-requires : tie.Need-refused-requires
-refused-requires c κs = search needs
-
-enum-known-found-2 : tie.Need-enum-known-found-2
-enum-known-found-2 c = search needs
-
-refused-requires-2 : tie.Need-refused-requires-2
-refused-requires-2 c κs = search needs
-
-enum-known-found-3 : tie.Need-enum-known-found-3
-enum-known-found-3 c = search needs
-
-refused-requires-3 : tie.Need-refused-requires-3
-refused-requires-3 c κs = search needs
-
-enum-known-found-4 : tie.Need-enum-known-found-4
-enum-known-found-4 c = search needs
-
-refused-requires-4 : tie.Need-refused-requires-4
-refused-requires-4 c κs = search needs
+clear-requires : tie.Need-clear-requires
+clear-requires c κs = search needs
 
 same-length : tie.Need-same-length
 same-length c = search needs
@@ -44,81 +14,16 @@ same-length c = search needs
 same-length-2 : tie.Need-same-length-2
 same-length-2 c = search needs
 
-returns : tie.Need-returns
-returns c =
-    by-found (now (c .before .before .before .before .before .before .before .before .before .before .before .before .before .before .args .sheet)) _ _ _ _ _ _ _ _ (c .before .before .before .before .before .before .before .before .before .before .check .ensures) (c .before .before .before .before .before .before .before .before .found .given .1) (c .before .before .before .before .sound .ensures)
-
 same-length-3 : tie.Need-same-length-3
 same-length-3 c = search needs
 
-same-length-4 : tie.Need-same-length-4
-same-length-4 c = search needs
-
-returns-2 : tie.Need-returns-2
-returns-2 c =
-    let told = c .before .before .before .before .refused .ensures in
-    by-found (now (c .before .before .before .before .before .before .before .before .before .before .before .before .before .args .sheet)) _ _ _ _ _ _ _ _ (c .before .before .before .before .before .before .before .before .before .check .ensures) (c .before .before .before .before .before .before .before .enum-told .given .1) (by-size (now (c .before .before .before .before .before .before .before .before .before .before .before .before .before .args .sheet)) _ _ _ _ _ _ (told .1 .1) (told .0) (told .1 .0))
-
-same-length-5 : tie.Need-same-length-5
-same-length-5 c = search needs
-
-same-length-6 : tie.Need-same-length-6
-same-length-6 c = search needs
-
-returns-3 : tie.Need-returns-3
-returns-3 c =
-    let told = c .before .before .before .before .refused2 .ensures in
-    by-found (now (c .before .before .before .before .before .before .before .before .before .before .before .before .before .before .args .sheet)) _ _ _ _ _ _ _ _ (c .before .before .before .before .before .before .before .before .before .before .check .ensures) (c .before .before .before .before .before .before .before .before .found2 .given .1) (by-word (now (c .before .before .before .before .before .before .before .before .before .before .before .before .before .before .args .sheet)) _ _ _ _ _ _ (told .1 .1) _ (told .0) (told .1 .0))
-
-same-length-7 : tie.Need-same-length-7
-same-length-7 c = search needs
-
-same-length-8 : tie.Need-same-length-8
-same-length-8 c = search needs
-
-returns-4 : tie.Need-returns-4
-returns-4 c =
-    let told = c .before .before .before .before .refused3 .ensures in
-    by-found (now (c .before .before .before .before .before .before .before .before .before .before .before .before .before .before .args .sheet)) _ _ _ _ _ _ _ _ (c .before .before .before .before .before .before .before .before .before .before .check .ensures) (c .before .before .before .before .before .before .before .before .found3 .given .1) (by-place (now (c .before .before .before .before .before .before .before .before .before .before .before .before .before .before .args .sheet)) _ _ _ _ _ _ (told .1 .1) _ (told .0) (told .1 .0))
-
-same-length-9 : tie.Need-same-length-9
-same-length-9 c = search needs
-
-same-length-10 : tie.Need-same-length-10
-same-length-10 c = search needs
-
-returns-5 : tie.Need-returns-5
-returns-5 c =
-    let told = c .before .before .before .before .refused4 .ensures in
-    by-found (now (c .before .before .before .before .before .before .before .before .before .before .before .before .before .before .args .sheet)) _ _ _ _ _ _ _ _ (c .before .before .before .before .before .before .before .before .before .before .check .ensures) (c .before .before .before .before .before .before .before .before .found4 .given .1) (by-byte (now (c .before .before .before .before .before .before .before .before .before .before .before .before .before .before .args .sheet)) _ _ _ _ _ _ (told .1 .1) _ (told .0) (told .1 .0))
+returns : tie.Need-returns
+returns c =
+    let told = c .before .before .before .before .before .before .before .before .before .before .answered .ensures in
+    let zero = c .before .before .clear .ensures in
+    (rw (told .0) at zero, told .1)
 
 pub called-spec : {M : Type 1} → statement M
 called-spec =
     tie.close
-    (tie.spec
-    check-requires
-    enum-known-found
-    sound-requires
-    enum-told
-    refused-requires
-    enum-known-found-2
-    refused-requires-2
-    enum-known-found-3
-    refused-requires-3
-    enum-known-found-4
-    refused-requires-4
-    same-length
-    same-length-2
-    returns
-    same-length-3
-    same-length-4
-    returns-2
-    same-length-5
-    same-length-6
-    returns-3
-    same-length-7
-    same-length-8
-    returns-4
-    same-length-9
-    same-length-10
-    returns-5)
+    (tie.spec answered-requires clear-requires same-length same-length-2 same-length-3 returns)

@@ -1,0 +1,9 @@
+pub mod Firsts
+pub mod Counts
+pub mod Chain
+pub mod Block
+pub mod Words
+pub mod Steps
+pub mod Tables
+pub mod Fills
+pub mod Levels

@@ -1,0 +1,4 @@
+pub mod Sums
+pub mod First
+pub mod Spans
+pub mod Rows
