@@ -2,7 +2,8 @@
  *
  *     stack [N [SEED]]       the sheets below, then N random ones (2,000) from a seed (1)
  *
- * Built with STACK_OF_ROWS defined it measures the second call, with a list that is never too short.
+ * Built with STACK_OF_ROWS defined it measures the second call, with a list that is never too short; with STACK_OF_ONCE the call that reads ahead once, with such a
+ * table; with STACK_OF_COMPACT the one that compacts.
  *
  * Counted from the caller's stack pointer at the call down to the lowest byte written: the return address, the library's frames, and those of memcpy and
  * memset. It is exact for the sheets that are run: the stack is painted twice, the second time with each bit turned, so that a written byte shows in one of the
@@ -18,18 +19,32 @@
 static const uint64_t PAINT = 0x0123456789abcdef;
 enum { STACK = 1 << 14, ROOM = 1 << 16, CREATE = TWIGMANTLE_PACKED_CREATE, FROM_ONE = TWIGMANTLE_KEY_ONE_INDEXED << TWIGMANTLE_PACKED_CLASS_SHIFT };
 
-#ifdef STACK_OF_ROWS
-#define LAYOUT twigmantle_layout_rows
+#if defined STACK_OF_ROWS || defined STACK_OF_ONCE
 #define LIST , uint32_t *list, size_t words
-#define LENT_LIST , rows, TWIGMANTLE_MOST_LIST
-static uint32_t rows[TWIGMANTLE_MOST_LIST];
+#define LENT_LIST , lent, sizeof lent / sizeof lent[0]
+static uint32_t lent[TWIGMANTLE_MOST_TABLE];
 #else
-#define LAYOUT twigmantle_layout
 #define LIST
 #define LENT_LIST
 #endif
 
-typedef struct twigmantle_report layout_call(const uint8_t *sheet, size_t n, uint8_t *text, size_t room LIST);
+#if defined STACK_OF_ROWS
+#define LAYOUT twigmantle_layout_rows
+#elif defined STACK_OF_ONCE
+#define LAYOUT twigmantle_layout_once
+#elif defined STACK_OF_COMPACT
+#define LAYOUT twigmantle_compact
+#else
+#define LAYOUT twigmantle_layout
+#endif
+
+#ifdef STACK_OF_COMPACT
+typedef struct twigmantle_outcome told;
+#else
+typedef struct twigmantle_report told;
+#endif
+
+typedef told layout_call(const uint8_t *sheet, size_t n, uint8_t *text, size_t room LIST);
 
 struct token {
     uint32_t packed;
@@ -40,7 +55,7 @@ static uint64_t stack[STACK];
 static uint8_t text[ROOM], sheet[LONGEST];
 static size_t length, room = ROOM, largest;
 static layout_call *volatile called;
-static struct twigmantle_report report;
+static told report;
 static uintptr_t caller; /* the stack pointer at the call */
 static ucontext_t home, away;
 
@@ -50,14 +65,14 @@ static void on_stack(void)
 }
 
 /* In the call's place: below the caller's stack pointer lie the return address and the frame pointer that was saved. */
-__attribute__((noinline)) static struct twigmantle_report probe(const uint8_t *s, size_t n, uint8_t *t, size_t r LIST)
+__attribute__((noinline)) static told probe(const uint8_t *s, size_t n, uint8_t *t, size_t r LIST)
 {
     (void)s, (void)n, (void)t, (void)r;
-#ifdef STACK_OF_ROWS
+#if defined STACK_OF_ROWS || defined STACK_OF_ONCE
     (void)list, (void)words;
 #endif
     caller = (uintptr_t)__builtin_frame_address(0) + 16;
-    return (struct twigmantle_report){0, 0, 0, 0, 0};
+    return (told){0};
 }
 
 /* Where the lowest byte lies that the call wrote. The paint's bytes differ, or the compiler would paint by memset and so bind it before the first call. */
@@ -117,6 +132,9 @@ static void show(const char *what, uint32_t refusal)
     size_t bytes = depth();
     largest = bytes > largest ? bytes : largest;
     printf("%8zu  %s\n", bytes, what);
+#ifdef STACK_OF_COMPACT
+    refusal = refusal <= 4 ? refusal : refusal == 9 ? TWIGMANTLE_REFUSAL_SHEET : 0;
+#endif
     if (report.refusal != refusal) {
         printf("refused %" PRIu32 " at %" PRIu64 ", wanted %" PRIu32 "\n", report.refusal, report.place, refusal);
         exit(1);

@@ -10,6 +10,8 @@ use crate::random::Dice;
 use crate::sheet::{Sheet, in_turn};
 use shapes::{Maker, SHAPES};
 
+#[cfg(feature = "compact")]
+mod compact;
 mod costly;
 #[cfg(feature = "once")]
 pub mod once;
@@ -48,6 +50,8 @@ pub fn run(seed: u64, part: &str) -> bool {
     clearing();
     #[cfg(feature = "rows")]
     rows::run(seed, part);
+    #[cfg(feature = "compact")]
+    compact::run(part);
     #[cfg(feature = "once")]
     once::run(seed, part, None);
     true

@@ -49,11 +49,11 @@ fn nested(depth: usize, size: usize, turn: &[Piece]) -> Vec<Token> {
     tokens(open.chain(inside).chain([(CLOSE, ")")].into_iter().cycle().take(close)))
 }
 
-/// A bracket in every eighth token that is never closed, and closing ones before them all.
+/// Closing brackets that close nothing, then fourteen that are never closed, eight tokens apart.
 fn unmatched(size: usize) -> Vec<Token> {
     let piece = |i: usize| match i {
         0..8 => (CLOSE, ")"),
-        _ if i % 8 == 0 && i < 8 * 100 => (OPEN, "("),
+        _ if i % 8 == 0 && i <= 8 * 14 => (OPEN, "("),
         _ => [WORD_A, COMMA, SELECT][i % 3],
     };
     tokens((0..size).map(piece))
