@@ -191,14 +191,25 @@ struct sheet_built sheet_build(const struct sheet_plan *plan, uint8_t *sheet, si
     return w.built;
 }
 
-struct sheet_options sheet_default_options(void)
+/* The options that a head carries. */
+static struct sheet_options options_by(size_t (*write_head)(uint8_t *, size_t))
 {
     uint8_t head[TWIGMANTLE_SIZE_HEAD];
-    twigmantle_default_head(head, sizeof head);
+    write_head(head, sizeof head);
     uint32_t words[7];
     for (size_t i = 0; i < 7; i++)
         words[i] = word_at(head, TWIGMANTLE_SIZE_WORD * (TWIGMANTLE_HEAD_INDENT + i));
     return (struct sheet_options){words[0], words[1], words[2], words[3], words[4], words[5], words[6]};
+}
+
+struct sheet_options sheet_default_options(void)
+{
+    return options_by(twigmantle_default_head);
+}
+
+struct sheet_options sheet_rust_options(void)
+{
+    return options_by(twigmantle_rust_head);
 }
 
 struct sheet_bytes sheet_text(const char *text)

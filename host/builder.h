@@ -79,8 +79,9 @@ struct sheet_built {
 /* Writes the sheet at the buffer's start and zero after it; on a fault the buffer is all zero. */
 struct sheet_built sheet_build(const struct sheet_plan *plan, uint8_t *sheet, size_t room);
 
-/* The options of the library's default head. */
+/* The options of the library's default head, and those of the Rust's head. */
 struct sheet_options sheet_default_options(void);
+struct sheet_options sheet_rust_options(void);
 
 /* The bytes of a C string, without its end. */
 struct sheet_bytes sheet_text(const char *text);

@@ -76,7 +76,7 @@ static size_t tokens_of(uint32_t kind)
 static uint64_t lay_out(size_t count)
 {
     static const struct sheet_param entry = {.value = {"48213", 5}};
-    struct sheet_plan plan = {.options = sheet_default_options(), .mode = TWIGMANTLE_MODE_INDEXED, .params = &entry, .param_count = 1};
+    struct sheet_plan plan = {.options = sheet_rust_options(), .mode = TWIGMANTLE_MODE_INDEXED, .params = &entry, .param_count = 1};
     plan.tokens = tokens;
     plan.token_count = count;
     size_t n = sheet_build(&plan, sheet, sizeof sheet).length;

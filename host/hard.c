@@ -444,24 +444,34 @@ static void damage(void)
     }
 }
 
-/* The other call, into slices of every length. */
-static void heads(void)
+/* A head, into slices of every length. */
+static void head_is(const uint8_t *head, size_t (*write_head)(uint8_t *, size_t))
 {
-    static const uint8_t head[48] = {[20] = 2, [32] = 1, [36] = 50, [40] = 255, 255, 255, 255, 255, 255, 255, 255};
     for (size_t n = 0; n < WAYS * 100; n++) {
         where_now = n % WAYS;
         room_now = n / WAYS;
         uint8_t *out = lend(&texts, room_now, where_now);
         if (where_now != HEAP)
             memset(out, 7, room_now);
-        size_t given = twigmantle_default_head(out, room_now), wanted = room_now < 48 ? 0 : 48;
+        size_t given = write_head(out, room_now), wanted = room_now < 48 ? 0 : 48;
         if (given != wanted || memcmp(out, head, wanted) != 0)
-            wrong("not the default head");
+            wrong("another head");
         for (size_t i = wanted; i < room_now; i++)
             if (out[i] != 0)
                 wrong("a byte after the head that is not zero");
         give_back(out, where_now);
     }
+}
+
+/* Both: they differ in word 11 alone. */
+static void heads(void)
+{
+    static const uint8_t usual[48] = {[20] = 2, [32] = 1, [36] = 50, [40] = 255, 255, 255, 255, 60};
+    static const uint8_t rust[48] = {[20] = 2, [32] = 1, [36] = 50, [40] = 255, 255, 255, 255, 255, 255, 255, 255};
+    stage = "the default head";
+    head_is(usual, twigmantle_default_head);
+    stage = "the Rust's head";
+    head_is(rust, twigmantle_rust_head);
 }
 
 /* A null pointer with length 0. */
@@ -472,7 +482,7 @@ static void nulls(void)
     stage = "null pointers with length 0";
     room_now = length = 0;
     struct twigmantle_report none = twigmantle_layout(NULL, 0, NULL, 0), sheet = twigmantle_layout(NULL, 0, text, 3), room = twigmantle_layout(head, 48, NULL, 0);
-    if (none.refusal != 1 || sheet.refusal != 1 || text[0] + text[1] + text[2] != 0 || room.refusal != 0 || twigmantle_default_head(NULL, 0) != 0)
+    if (none.refusal != 1 || sheet.refusal != 1 || text[0] + text[1] + text[2] != 0 || room.refusal != 0 || twigmantle_default_head(NULL, 0) + twigmantle_rust_head(NULL, 0) != 0)
         wrong("another answer than for no bytes");
 #ifndef HARD_WITHOUT_ROWS
     static const uint8_t placeholder[68] = {[0] = 1, [20] = 2, [48] = TWIGMANTLE_KIND_PLACEHOLDER};

@@ -30,9 +30,10 @@ enum { PLENTY = 65536 };
 #define BLANK TOKEN(WHITESPACE, " ")
 #define FEED TOKEN(WHITESPACE, "\n")
 
+/* Document 01's sheets take the Rust's head. */
 static struct sheet_plan of(const struct sheet_token *tokens, size_t n)
 {
-    return (struct sheet_plan){.options = sheet_default_options(), .tokens = tokens, .token_count = n};
+    return (struct sheet_plan){.options = sheet_rust_options(), .tokens = tokens, .token_count = n};
 }
 
 static struct sheet_plan filled(const struct sheet_token *tokens, size_t n, uint32_t mode, const struct sheet_param *params, size_t p)

@@ -101,12 +101,12 @@ static size_t depth(void)
     return caller - (first < second ? first : second);
 }
 
-/* The default head, the tokens, and their values one after another. */
+/* The Rust's head, the tokens, and their values one after another. */
 static void build(const struct token *tokens, uint32_t n, uint32_t repeated)
 {
     uint32_t body = 0, base = TWIGMANTLE_SIZE_HEAD + 20 * n * repeated;
     memset(sheet, 0, sizeof sheet);
-    twigmantle_default_head(sheet, TWIGMANTLE_SIZE_HEAD);
+    twigmantle_rust_head(sheet, TWIGMANTLE_SIZE_HEAD);
     for (uint32_t i = 0; i < n * repeated; i++) {
         const struct token *token = &tokens[i % n];
         uint32_t at = TWIGMANTLE_SIZE_HEAD + 20 * i, bytes = (uint32_t)strlen(token->value);
@@ -152,7 +152,7 @@ static void texts(void)
 {
     static const struct token open = {OPEN, "("}, nested[] = {{OPEN, "("}, {TOP_LEVEL, "SELECT"}};
     build(QUERY, LENGTH, 0);
-    show("the default head alone", 0);
+    show("the Rust's head alone", 0);
     build(QUERY, LENGTH, 1);
     show("a query", 0);
     build(QUERY, LENGTH, TWIGMANTLE_MOST_TOKENS / LENGTH);

@@ -75,6 +75,9 @@ struct twigmantle_outcome twigmantle_compact(const uint8_t *sheet, size_t n, uin
 /* Writes the default head into out, n bytes: its 48 bytes, zero after them, and gives 48. An out under 48 bytes becomes zero, and it gives 0; n 0 too. */
 size_t twigmantle_default_head(uint8_t *out, size_t n);
 
+/* The same with the head of the Rust's own defaults, for a host that compares with the Rust: all as in the default head, but no limit in word 11. */
+size_t twigmantle_rust_head(uint8_t *out, size_t n);
+
 #ifdef __cplusplus
 }
 #endif
@@ -174,14 +177,15 @@ enum twigmantle_inline {
 
 #define TWIGMANTLE_LIMIT_NONE 0xffffffffu /* no limit given, in words 10 and 11 alone */
 
-/* The options of the default head; its counts and its mode are 0. */
+/* The options of the default head; its counts and its mode are 0. The Rust's head has them too, but for the last. */
 #define TWIGMANTLE_DEFAULT_INDENT 2u
 #define TWIGMANTLE_DEFAULT_CASE TWIGMANTLE_CASE_AS_IS
 #define TWIGMANTLE_DEFAULT_INLINE TWIGMANTLE_INLINE_OFF
 #define TWIGMANTLE_DEFAULT_LINES 1u
 #define TWIGMANTLE_DEFAULT_BLOCK 50u
 #define TWIGMANTLE_DEFAULT_ARGUMENTS TWIGMANTLE_LIMIT_NONE
-#define TWIGMANTLE_DEFAULT_TOP_LEVEL TWIGMANTLE_LIMIT_NONE
+#define TWIGMANTLE_DEFAULT_TOP_LEVEL 60u
+#define TWIGMANTLE_RUST_TOP_LEVEL TWIGMANTLE_LIMIT_NONE
 
 /* The words of each record, by number. Starts count from the first byte of the bodies. */
 enum twigmantle_token {

@@ -36,6 +36,7 @@ mod linked {
             room: usize,
         ) -> super::Report;
         pub fn twigmantle_default_head(out: *mut u8, n: usize) -> usize;
+        pub fn twigmantle_rust_head(out: *mut u8, n: usize) -> usize;
         #[cfg(feature = "rows")]
         pub fn twigmantle_layout_rows(
             sheet: *const u8,
@@ -251,10 +252,7 @@ fn read(report: Report, buffer: &[u8], room: usize) -> Result<Answer, String> {
     }
 }
 
-fn default_head(out: &mut [u8]) -> usize {
-    // Safe: the slice is as long as is said, and lent to this call alone.
-    unsafe { linked::twigmantle_default_head(out.as_mut_ptr(), out.len()) }
-}
+type WriteHead = unsafe extern "C" fn(*mut u8, usize) -> usize;
 
 /// The head that the Rust's own default options make: no counts, no parameters, then words 5 to 11.
 fn rust_head() -> Vec<u8> {
@@ -279,17 +277,27 @@ fn rust_head() -> Vec<u8> {
     [0; 5].iter().chain(&words).flat_map(|word| word.to_le_bytes()).collect()
 }
 
-/// The default head in slices of every length to 200: the Rust's, zero after it; zero alone in one
-/// that is too short.
-pub fn head_is_the_rusts() -> Result<(), String> {
-    let head = rust_head();
+/// Document 02, Wish 8: the default head carries 60 in word 11, the head under the Rust's name what
+/// the Rust's own defaults are.
+pub fn heads_are_right() -> Result<(), String> {
+    let rust = rust_head();
+    let mut usual = rust.clone();
+    usual[44..].copy_from_slice(&60_u32.to_le_bytes());
+    head_is("the default head", linked::twigmantle_default_head, &usual)?;
+    head_is("the Rust's head", linked::twigmantle_rust_head, &rust)
+}
+
+/// A head in slices of every length to 200: its bytes, zero after them; zero alone in a slice that
+/// is too short.
+fn head_is(name: &str, write: WriteHead, head: &[u8]) -> Result<(), String> {
     for room in 0..=200 {
         let mut out = vec![PAINT; room + 1];
-        let given = default_head(&mut out[..room]);
-        let wanted = if room < head.len() { &[][..] } else { &head };
+        // Safe: the slice is as long as is said, and lent to this call alone.
+        let given = unsafe { write(out.as_mut_ptr(), room) };
+        let wanted = if room < head.len() { &[][..] } else { head };
         let zero = out[wanted.len()..room].iter().all(|&byte| byte == 0);
         if given != wanted.len() || !out.starts_with(wanted) || !zero || out[room] != PAINT {
-            return Err(format!("the default head at {room}: {given}, {out:?}"));
+            return Err(format!("{name} at {room}: {given}, {out:?}"));
         }
     }
     Ok(())

@@ -42,7 +42,7 @@ const EVERY: u64 = 128;
 
 pub fn run(n: u64, seed: u64) -> bool {
     #[cfg(feature = "call")]
-    if let Err(difference) = crate::call::head_is_the_rusts() {
+    if let Err(difference) = crate::call::heads_are_right() {
         println!("DIFFERENCE: {difference}");
         return false;
     }

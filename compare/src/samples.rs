@@ -126,7 +126,13 @@ fn of(pieces: &[Piece]) -> Sheet {
         let key = if kind == PLACEHOLDER { key(value) } else { Key::None };
         Token { key, ..Token::new(kind, value) }
     };
-    Sheet { tokens: pieces.iter().map(token).collect(), ..Sheet::default() }
+    let tokens = pieces.iter().map(token).collect();
+    Sheet { tokens, options: usual(), ..Sheet::default() }
+}
+
+/// The default head's: word 11 is 60 (document 02, Wish 8).
+fn usual() -> Options {
+    Options { top_level: 60, ..Options::default() }
 }
 
 fn filled(mut sheet: Sheet, mode: u32, entries: &[(&str, &str)]) -> Sheet {
@@ -146,6 +152,11 @@ fn samples() -> Vec<Sample> {
     let mut samples = vec![
         sample("join", "A join.", of(JOINED)),
         sample(
+            "rust",
+            "The same under the Rust's head, which has no `max_inline_top_level`.",
+            with(of(JOINED), |o| o.top_level = NONE),
+        ),
+        sample(
             "fold",
             "With `max_inline_top_level` given, the bracket stays on the line of its word, and what is \
              inside stands one level in, not two.",
@@ -157,7 +168,9 @@ fn samples() -> Vec<Sample> {
         "tabs",
         "Tabs for an indent, and one in the comment. The width counts columns, and a tab goes to the next \
          multiple of 8: the second line has 17 bytes and is 24 wide.",
-        with(filled(of(TABBED), MODE_INDEXED, LIST), |o| o.indent = 256),
+        with(filled(of(TABBED), MODE_INDEXED, LIST), |o| {
+            (o.indent, o.top_level) = (256, NONE);
+        }),
     ));
     samples.push(sample(
         "console",
@@ -267,9 +280,10 @@ fn settings(sheet: &Sheet) -> String {
             ("max_inline_top_level", o.top_level),
         ]
     };
-    let usual = words(&Options::default());
+    let usual = words(&usual());
     let changed = words(&sheet.options).into_iter().filter(|word| !usual.contains(word));
-    let changed = listed(changed.map(|(name, word)| format!("`{name}` {word}")));
+    let shown = |word: u32| if word == NONE { "None".to_owned() } else { word.to_string() };
+    let changed = listed(changed.map(|(name, word)| format!("`{name}` {}", shown(word))));
     let options = if changed.is_empty() { "as by default".into() } else { changed };
     let text = |bytes: &[u8]| String::from_utf8_lossy(bytes).into_owned();
     let entries = listed(sheet.params.iter().map(|param| match sheet.mode {

@@ -62,6 +62,7 @@ pub struct Options {
     pub top_level: u32,
 }
 
+/// The Rust's defaults: document 01's sheets and the comparison take them.
 impl Default for Options {
     fn default() -> Self {
         let (block, arguments, top_level) = (50, NONE, NONE);

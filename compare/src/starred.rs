@@ -386,11 +386,11 @@ pub fn run() -> bool {
     sheets && further && comments && tabs && rows && compacted && head()
 }
 
-/// The call's default head, where it is linked.
+/// The two heads of the library, where it is linked.
 fn head() -> bool {
     #[cfg(feature = "call")]
-    match crate::call::head_is_the_rusts() {
-        Ok(()) => println!("the default head: the Rust's"),
+    match crate::call::heads_are_right() {
+        Ok(()) => println!("the heads: the Rust's, and with 60 in word 11"),
         Err(difference) => {
             println!("{difference}");
             return false;

@@ -13,7 +13,7 @@ ghost use Rattle.rules.specs.Due.{Faithful};
 ghost use Rattle.rules.specs.Shown.{Pointed};
 ghost use Rattle.rules.specs.Compacted.{refusal as unwritten, compact as compactOf, outcomeOf, bufferWith, Compacts};
 ghost use Rattle.records.specs.Sheeted.{Sheeted};
-ghost use Rattle.head.specs.Head.{headWritten, headReturned};
+ghost use Rattle.head.specs.Head.{defaultHead, rustHead, headWritten, headReturned};
 ghost use Rattle.rules.specs.Words.{bodyAt};
 ghost use Rattle.table.specs.Table.{Filled};
 ghost use Rattle.twigmantle.specs.Called.{calledAs, listCalled};
@@ -262,7 +262,16 @@ pub extern "C" fn twigmantle_compact(sheet: &[u8], out: &mut [u8]) -> Outcome
 #[no_mangle]
 pub extern "C" fn twigmantle_default_head(out: &mut [u8]) -> usize
     ensures { λ r. ⌜ r ≡ headReturned (length (now (out .entry))) ⌝ }
-    ensures { λ r. ⌜ now (out .exit) ≡ headWritten (length (now (out .entry))) ⌝ }
+    ensures { λ r. ⌜ now (out .exit) ≡ headWritten defaultHead (length (now (out .entry))) ⌝ }
 {
     head::default_head(out)
+}
+
+// The same with the Rust's own defaults.
+#[no_mangle]
+pub extern "C" fn twigmantle_rust_head(out: &mut [u8]) -> usize
+    ensures { λ r. ⌜ r ≡ headReturned (length (now (out .entry))) ⌝ }
+    ensures { λ r. ⌜ now (out .exit) ≡ headWritten rustHead (length (now (out .entry))) ⌝ }
+{
+    head::rust_head(out)
 }
