@@ -34,16 +34,13 @@ static size_t build(void)
     return built.length;
 }
 
-/* Lends so much, and at refusal 9 twice as much, up to all there is. The last answer is the sheet's. */
-static struct twigmantle_report lay_out(size_t n, size_t room)
+/* Lends what is known to be enough, or all there is: only in that case can refusal 9 come. A refused sheet needs nothing. */
+static struct twigmantle_report lay_out(size_t n)
 {
-    struct twigmantle_report r = twigmantle_layout(sheet, n, text, room);
-    while (r.refusal == TWIGMANTLE_REFUSAL_ROOM && room < sizeof text) {
-        printf("refused 9 at %" PRIu64 ": %zu bytes were too few\n", r.place, room);
-        room = room < sizeof text / 2 ? 2 * room : sizeof text;
-        r = twigmantle_layout(sheet, n, text, room);
-    }
-    return r;
+    struct twigmantle_outcome need = twigmantle_room(sheet, n);
+    size_t room = need.length < sizeof text ? (size_t)need.length : sizeof text;
+    printf("%zu bytes are lent\n", room);
+    return twigmantle_layout(sheet, n, text, room);
 }
 
 static void show(struct twigmantle_report r)
@@ -59,8 +56,8 @@ int main(void)
     size_t n = build();
     if (n == 0)
         return 1;
-    show(lay_out(n, 40)); /* a real host starts with more */
+    show(lay_out(n));
     sheet[TWIGMANTLE_SIZE_WORD * TWIGMANTLE_HEAD_CASE] = 3;
-    show(lay_out(n, sizeof text)); /* a sheet that was damaged on its way */
+    show(lay_out(n)); /* a sheet that was damaged on its way */
     return 0;
 }

@@ -376,6 +376,21 @@ static uint64_t at_room(size_t room, size_t need, struct twigmantle_report ample
     return room < need ? r.place : UINT64_MAX;
 }
 
+/* The call that says how much to lend: the judge's sum, no less than the need, and the layout's refusals 1 to 4. */
+static void room_is_known(struct twigmantle_report ample, size_t need)
+{
+    enum where where = calls++ % WAYS;
+    uint8_t *sheet = lend_sheet(where);
+    where_now = where;
+    struct twigmantle_outcome known = twigmantle_room(sheet, length);
+    give_back(sheet, where);
+    if (ample.refusal > 0 && ample.refusal <= TWIGMANTLE_REFUSAL_BYTE) {
+        if (known.refusal != ample.refusal || known.place != ample.place || known.length != 0)
+            wrong("the room of a refused sheet");
+    } else if (known.refusal != 0 || known.place != 0 || known.length != enough(made) || (ample.refusal != TWIGMANTLE_REFUSAL_ROOM && known.length < need))
+        wrong("another room than is needed");
+}
+
 /* Buffers around the need; every length from 0 up, and lists of every length, for one small text in 16. */
 static void rooms(void)
 {
@@ -385,6 +400,7 @@ static void rooms(void)
     counts[ample.refusal]++;
     memcpy(text_first, text_now, (size_t)ample.length);
     size_t need = ample.refusal == 9 ? MOST_ROOM + 1 : need_of(ample);
+    room_is_known(ample, need);
     if (need <= 200 && one_in(16)) {
         uint64_t last = 0;
         for (size_t room = 0; room <= need + 8; room++) {

@@ -344,21 +344,28 @@ static inline int are_due_rows(const uint8_t *sheet, const uint8_t *text, size_t
     return 1;
 }
 
-/* A buffer that refusal 9 is never given for: for each token its bytes, 3, two indents at the greatest depth, and for each line feed in it one indent and 1; at
- * a `;` the lines between queries. A placeholder counts as its own value and the longest entry. */
+/* The sum of document 02, Wish 9, which no working text passes: for each token laid out the bytes that it shows, 3, two indents at the greatest depth, for each
+ * line feed in them one indent and 1, and at a `;` the lines between queries; for a copied one its bytes. A one-based 0 of mode Indexed shows itself here. */
 static uint64_t enough(const uint8_t *sheet)
 {
     struct parts s = parts_of(sheet);
-    uint64_t sum = 0, entry = 0, spaces = word_at(sheet, 4 * TWIGMANTLE_HEAD_INDENT);
+    struct turns turns = {1, 0};
+    size_t counter = 0;
+    uint64_t sum = 0, spaces = word_at(sheet, 4 * TWIGMANTLE_HEAD_INDENT);
     uint64_t indent = TWIGMANTLE_MOST_DEPTH * (spaces == TWIGMANTLE_INDENT_TABS ? 1 : spaces);
-    for (size_t i = 0; i < s.params; i++)
-        entry = entry_value(&s, i).n > entry ? entry_value(&s, i).n : entry;
     for (size_t i = 0; i < s.tokens; i++) {
+        uint32_t kind = word_at(sheet, 48 + 20 * i) & 31, entry = TWIGMANTLE_ENTRY_OWN;
         struct value v = place_at(&s, 48 + 20 * i + 4);
-        for (size_t j = 0; j < v.n; j++)
+        int turn = turn_of(&turns, kind, v);
+        if (turn < 0 || (turn == 1 && kind == TWIGMANTLE_KIND_WHITESPACE))
+            continue;
+        if (turn == 1 && kind == TWIGMANTLE_KIND_PLACEHOLDER && !is_nought(&s, i) && (entry = entry_of(&s, i, &counter)) != TWIGMANTLE_ENTRY_OWN)
+            v = entry_value(&s, entry);
+        sum += v.n;
+        for (size_t j = 0; turn == 1 && j < v.n; j++)
             sum += v.at[j] == '\n' ? indent + 1 : 0;
-        sum += v.n + 3 + 2 * indent + (v.n == 1 && v.at[0] == ';' ? word_at(sheet, 4 * TWIGMANTLE_HEAD_LINES) : 0);
-        sum += (word_at(sheet, 48 + 20 * i) & 31) == TWIGMANTLE_KIND_PLACEHOLDER ? entry : 0;
+        if (turn == 1)
+            sum += 3 + 2 * indent + (v.n == 1 && v.at[0] == ';' ? word_at(sheet, 4 * TWIGMANTLE_HEAD_LINES) : 0);
     }
     return sum;
 }

@@ -61,10 +61,16 @@ struct twigmantle_report twigmantle_layout_rows_once(const uint8_t *sheet, size_
 struct twigmantle_outcome {
     uint32_t refusal; /* enum twigmantle_refusal */
     uint64_t place;
-    uint64_t length; /* of what was written, in bytes */
+    uint64_t length; /* as the call says */
 };
 
-/* Writes the sheet of n bytes anew into out, a buffer of room bytes, with only those bytes of the bodies that some place covers, in their old order: a place
+/* How long a buffer never meets refusal 9 with the sheet of n bytes, whichever layout call is made: its length. Over the tokens laid out it is the sum of: the
+ * length of what the token shows, 3, twice I, for each line feed in it I + 1, and the lines between queries if it is a `;`, where I is 128 times the indent's
+ * width, a tab being 1. A token copied while formatting is off counts its length; one that is not kept, nothing. Most texts are far shorter.
+ * Refusals 1 to 4 are those of the layout calls; no other is given. The sum can be larger than any memory: up to some 2 ^ 40. */
+struct twigmantle_outcome twigmantle_room(const uint8_t *sheet, size_t n);
+
+/* Writes the sheet of n bytes anew into out, a buffer of room bytes, and gives its length, with only those bytes of the bodies that some place covers, in their old order: a place
  * then starts at the number of kept bytes before its old start, and an empty place at 0. The new sheet stands at out's start, zero bytes after it. It passes
  * refusals 1 to 4, both layout calls answer as they do for the old one, it is not longer, and compacting it gives it back.
  *

@@ -73,6 +73,8 @@ mod linked {
             out: *mut u8,
             room: usize,
         ) -> super::Outcome;
+        #[cfg(feature = "room")]
+        pub fn twigmantle_room(sheet: *const u8, n: usize) -> super::Outcome;
     }
 }
 
@@ -195,6 +197,18 @@ fn zero(table: Lent) -> Result<(), String> {
 pub fn compact(sheet: &[u8], out: &mut [u8]) -> Outcome {
     // Safe: both slices are as long as is said, and one is lent to this call alone.
     unsafe { linked::twigmantle_compact(sheet.as_ptr(), sheet.len(), out.as_mut_ptr(), out.len()) }
+}
+
+/// The sum; an error if the numbers do not go together.
+#[cfg(feature = "room")]
+pub fn room(sheet: &[u8]) -> Result<Result<u64, Refusal>, String> {
+    // Safe: the slice is as long as is said.
+    let outcome = unsafe { linked::twigmantle_room(sheet.as_ptr(), sheet.len()) };
+    match (outcome.refusal, outcome.place, outcome.length) {
+        (0, 0, sum) => Ok(Ok(sum)),
+        (number @ 1.., place, 0) => Ok(Err(Refusal { number, place: place as usize })),
+        _ => Err(format!("the numbers of the room do not go together: {outcome:?}")),
+    }
 }
 
 const PAINT: u8 = 0xa5;

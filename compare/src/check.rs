@@ -8,7 +8,7 @@ use crate::oracle::{self, Panic, Read};
 use crate::random::{self, Dice, Made, noise, white};
 use crate::sheet::{INLINE_ON, NAMES, Reader, Sheet};
 use crate::watched;
-use crate::{compacted, once, pointed};
+use crate::{compacted, once, pointed, roomed};
 use crate::{show, watched::Height};
 
 #[derive(Default)]
@@ -68,6 +68,8 @@ pub fn run(n: u64, seed: u64) -> bool {
             let new = compacted::judged(&made.bytes, &ample, room)?;
             tally.add("d compacted", new);
             compacted::call(&mut dice, &made.bytes)?;
+            tally.add("e room for the sum", roomed::judged(&made.bytes, &ample)?);
+            roomed::call(&made.bytes, &ample)?;
             if turn % EVERY == 0 {
                 every_room(&mut tally, &made.bytes, &ample)?;
                 every_list(&mut tally, &made.bytes, &ample, room)?;
@@ -90,6 +92,7 @@ pub fn run(n: u64, seed: u64) -> bool {
     tally.print();
     println!("each length from 0 to {} is met {} times or more", noise::LONGEST, least(&lengths));
     let with = [
+        (cfg!(feature = "room"), ", every call too"),
         (cfg!(feature = "once"), ", both calls on both engines and the compacting too"),
         (cfg!(feature = "compact"), ", both calls and the compacting too"),
         (cfg!(feature = "rows"), ", both calls too"),
@@ -258,7 +261,7 @@ pub fn at_room(ample: &Trial, room: usize) -> Answer {
 }
 
 /// The proved call at one buffer; the model alone where it is not linked.
-fn call_at(bytes: &[u8], ample: &Trial, room: usize) -> Result<(), String> {
+pub fn call_at(bytes: &[u8], ample: &Trial, room: usize) -> Result<(), String> {
     #[cfg(feature = "call")]
     let (whose, got) = ("call", crate::call::answer(bytes, room)?);
     #[cfg(not(feature = "call"))]

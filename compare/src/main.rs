@@ -11,6 +11,7 @@ mod once;
 mod oracle;
 mod pointed;
 mod random;
+mod roomed;
 mod samples;
 mod sheet;
 mod show;
@@ -18,6 +19,7 @@ mod show;
 mod speed;
 mod starred;
 mod table;
+mod tight;
 mod tokenizer;
 mod watched;
 
@@ -75,6 +77,7 @@ compare table N SEED FIRST
 compare list N SEED
 compare show FILE [ROOM]
 compare starred
+compare tight N SEED
 compare answers N SEED FILE
 compare samples FOLDER
 compare speed SEED [PART] (built with --profile speed --features call)
@@ -120,6 +123,7 @@ fn run(words: &[&str]) -> Option<bool> {
         #[cfg(feature = "call")]
         ["search", n, seed] => Some(speed::search::run(n.parse().ok()?, seed.parse().ok()?)),
         ["starred"] => Some(starred::run()),
+        ["tight", n, seed] => Some(tight::run(n.parse().ok()?, seed.parse().ok()?)),
         ["answers", n, seed, file] => Some(answers::run(n.parse().ok()?, seed.parse().ok()?, file)),
         ["samples", folder] => Some(samples::run(folder)),
         _ => None,

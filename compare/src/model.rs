@@ -6,11 +6,13 @@ mod ahead;
 mod checks;
 mod compact;
 mod layout;
+mod room;
 mod rows;
 mod text;
 
 use crate::watched::{Height, Stretch};
 pub use compact::compacted;
+pub use room::room;
 pub use rows::{Row, WORDS, list};
 
 #[derive(Debug, Clone, Copy, PartialEq, Eq)]

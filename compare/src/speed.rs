@@ -15,6 +15,8 @@ mod compact;
 mod costly;
 #[cfg(feature = "once")]
 pub mod once;
+#[cfg(feature = "room")]
+mod room;
 #[cfg(feature = "rows")]
 mod rows;
 pub mod search;
@@ -54,6 +56,8 @@ pub fn run(seed: u64, part: &str) -> bool {
     compact::run(part);
     #[cfg(feature = "once")]
     once::run(seed, part, None);
+    #[cfg(feature = "room")]
+    room::run(part);
     true
 }
 

@@ -3,6 +3,7 @@
 //! compacted sheet is.
 
 mod compact;
+mod room;
 mod rows;
 
 use crate::check::{columns, measured};
@@ -383,7 +384,8 @@ pub fn run() -> bool {
     let tabs = count(tab_sheets(), "tabs");
     let rows = rows::run();
     let compacted = compact::run();
-    sheets && further && comments && tabs && rows && compacted && head()
+    let room = room::run();
+    sheets && further && comments && tabs && rows && compacted && room && head()
 }
 
 /// The two heads of the library, where it is linked.

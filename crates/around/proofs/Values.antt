@@ -27,12 +27,12 @@ by-len s base i w h e =
 
 -- ---- a value that is one byte
 
-same-one : (v : List ℕ) (b : ℕ) → length v ≡ 1 → same v (b ∷ []) ≡ eqb (getD v 0 0) b
+pub same-one : (v : List ℕ) (b : ℕ) → length v ≡ 1 → same v (b ∷ []) ≡ eqb (getD v 0 0) b
 same-one [] b h = absurd (omega arith)
 same-one (x ∷ []) b h = and-true (eqb x b)
 same-one (x ∷ y ∷ ys) b h = absurd (omega arith)
 
-same-not : (v : List ℕ) (b : ℕ) → (length v ≡ 1 → ⊥) → same v (b ∷ []) ≡ false
+pub same-not : (v : List ℕ) (b : ℕ) → (length v ≡ 1 → ⊥) → same v (b ∷ []) ≡ false
 same-not [] b h = refl
 same-not (x ∷ []) b h = absurd (h refl)
 same-not (x ∷ y ∷ ys) b h = and-false (eqb x b)

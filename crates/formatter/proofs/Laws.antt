@@ -12,7 +12,7 @@ use Rattle.rules.specs.declared.Sort.the-variants as sort
 use Rattle.rules.specs.declared.Report.{Report}
 use Rattle.rules.specs.Text.{fits, refused, mark, bytesIn, change, isWhite, trimEnd, trimmed, lines, width}
 use Rattle.rules.proofs.Short.{Short, sheet-short}
-use Rattle.rules.proofs.Growth.{length-trimStart}
+use Rattle.rules.proofs.Lengths.{length-trimStart}
 use Rattle.around.specs.Readable.{sheeted-readable}
 use Rattle.rules.specs.Base.{_▹_}
 use Rattle.rules.specs.Rows.{Row, clip, shift, trimRow}

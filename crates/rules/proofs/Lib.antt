@@ -1,13 +1,16 @@
 pub mod Strip
 pub mod Columns
+pub mod Lengths
 pub mod Growth
-pub mod Short
 pub mod Own
 pub mod Kept
 pub mod Adds
 pub mod Keeps
 pub mod Stretch
 pub mod Rows
+pub mod TokenGrowth
+pub mod Enough
+pub mod Short
 pub mod Call
 pub mod Sourced
 pub mod Listed

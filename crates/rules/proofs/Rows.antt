@@ -148,7 +148,7 @@ unfolding when onIndex
 moved true q = refl
 moved false q = refl
 
-counts : (e : Env) (h : Here) (s : State) (t : Turn) → takenAs t e h s .index ≡ when (laysOut t (h .token .kind) && advances (e .params) (h .token .key)) suc (s .index)
+pub counts : (e : Env) (h : Here) (s : State) (t : Turn) → takenAs t e h s .index ≡ when (laysOut t (h .token .kind) && advances (e .params) (h .token .key)) suc (s .index)
 unfolding when formatPlaceholder push pushStr refuseIf onText
 counts e h s t =
     by-turn e h s (λ here u. u .index ≡ when (here && advances (e .params) (h .token .key)) suc (s .index)) (λ u q. q .counted)

@@ -8,26 +8,23 @@ use native.Mathlib.Omega.{arith}
 use native.Mathlib.Nat.{mul-le-mul}
 use lib.Dec.{eqb}
 use lib.ListN.{length, drop, length-take, length-drop}
-use Rattle.rules.specs.declared.TokenKind.{TokenKind}
 use Rattle.rules.specs.declared.TokenKind.the-variants as kind
 use Rattle.rules.specs.declared.Turn.{Turn}
 use Rattle.rules.specs.declared.Turn.the-variants as turn
 use Rattle.rules.specs.declared.Indent.the-variants as indent
 use Rattle.rules.specs.declared.Counts.{Counts}
 use Rattle.rules.specs.declared.Place.{Place}
-use Rattle.rules.specs.Base.{if_then_else_, nth?, orElse}
-use Rattle.rules.specs.Tokens.{Key, Token, Here}
+use Rattle.rules.specs.Bytes.{bytes}
+use Rattle.rules.specs.Base.{if_then_else_, same, nth?, orElse}
+use Rattle.rules.specs.Tokens.{Key, Token, is}
 use Rattle.rules.specs.Words.{wordAt, bodyAt}
 use Rattle.rules.specs.Sheet.{Env, Param, QueryParams, None, Indexed, Named, bodyPart, listOf, indentFrom, optionsOf, tokenOf, valueOf, paramOf, paramsOf, envOf, tokensOf}
-use Rattle.rules.specs.Text.{lineFeeds, Text, fits, refused, mark, bytesIn}
+use Rattle.rules.specs.Text.{lineFeeds}
 use Rattle.rules.specs.Switch.{Switch, turnOf, switchAfter, switchedOn}
 use Rattle.rules.specs.Params.{source, valueIn, valueAt, valueFrom, entry, get}
-use Rattle.rules.specs.State.{State, start, onText, onIndex}
-use Rattle.rules.specs.Formatter.{spanInfo, formatPlaceholder, formatToken, formatNoChange}
-use Rattle.rules.specs.InlineBlock.{buildInfo}
-use Rattle.rules.specs.Indentation.{noIndentation}
-use Rattle.rules.specs.Answer.{Answer, laid, refusal, takenAs, report, unlessRefused, finish, taken, formatFrom, format}
-use Rattle.rules.proofs.Growth.{length-trimmed, indentWidth, fullIndent, Deep, lengthIn, Grows, _then_, atMost, stays, shrinks, maybe, pushes, blank, refuses, tokenMost, GrowsBy, byValue, reserved, lineComment, typeSpecifier, blockComment, topLevel, topLevelNoIndent, newlineAfter, newline, opening, closing}
+use Rattle.rules.specs.Answer.{Answer, laid, refusal, format}
+use Rattle.rules.specs.Room.{fullIndent, roomLaidOut, shownBy, roomOf, counterAfter, roomFrom, room}
+use Rattle.rules.proofs.Enough.{FitsIn, enough}
 
 abbrev pub Short : Answer → Type 0
 Short (laid b l w) = length b < 2 ^ 60
@@ -50,7 +47,7 @@ Entries (Indexed vs) = Each (λ v. v) vs
 Entries (Named ps) = Each (λ (p : Param). p .value) ps
 
 pub record Modest (e : Env) : Type 0 where
-  pub indent : indentWidth (e .options .indent) ≤ 256
+  pub indent : fullIndent (e .options .indent) ≤ 32768
   pub between : e .options .«lines_between_queries» ≤ 256
   pub entries : Entries (e .params)
 
@@ -82,13 +79,9 @@ length-get : (ps : QueryParams) (k : Key) (i : ℕ) (v : List ℕ) → Entries p
 unfolding get entry
 length-get ps k i v h l = shown-or (valueFrom ps (source ps k i)) v (shown-from ps (source ps k i) h) l
 
-moves : {s : State} → Grows s (onIndex suc s) 0
-unfolding onIndex
-moves = shrinks (omega arith) (omega arith)
+-- ---- the sum of Wish 9
 
--- ---- one token
-
--- each adds less than 2 ^ 32 bytes
+-- each token's term is less than 2 ^ 32
 abbrev stepMost : ℕ
 stepMost = 4294967296
 
@@ -100,91 +93,61 @@ feeds-few (x ∷ xs) = go (eqb x 10) (feeds-few xs)
     go true h = omega arith
     go false h = omega arith
 
+at-most : (b : Bool) (n : ℕ) → (if b then n else 0) ≤ n
+at-most true n = omega arith
+at-most false n = omega arith
+
 module _ (e : Env) (m : Modest e) where
-  most-few : (v : List ℕ) → length v ≤ 65536 → tokenMost e v ≤ stepMost
-  most-few v l =
+  laidOut-few : (v : List ℕ) → length v ≤ 65536 → roomLaidOut (e .options) v ≤ stepMost
+  unfolding roomLaidOut
+  laidOut-few v l =
       let i = m .indent in
-      let b = m .between in
+      let n = m .between in
+      let b = at-most (same v (bytes ";")) (e .options .«lines_between_queries») in
       let f = feeds-few v in
       let g : lineFeeds v ≤ 65536 = omega arith in
-      let w : fullIndent e ≤ 32768 = omega arith in
-      let p : lineFeeds v * fullIndent e ≤ 65536 * 32768 = mul-le-mul g w in
+      let w : fullIndent (e .options .indent) + 1 ≤ 32769 = omega arith in
+      let p : (fullIndent (e .options .indent) + 1) * lineFeeds v ≤ 32769 * 65536 = mul-le-mul w g in
       omega arith
 
-  placeholder : (t : Token) {s : State} → length (t .value) ≤ 65536 → Grows s (formatPlaceholder e t s) stepMost
-  unfolding formatPlaceholder
-  placeholder t {s} l =
-      let g = length-get (e .params) (t .key) (s .index) (t .value) (m .entries) l in
-      atMost stepMost (omega arith) (refuses _ 5 then pushes e _ {n = 65536} g then blank e then maybe _ _ moves)
+  module _ (i : ℕ) (t : Token) (l : length (t .value) ≤ 65536) where
+    length-shown : length (shownBy (e .params) i t) ≤ 65536
+    unfolding shownBy
+    length-shown = go (is (t .kind) kind.Placeholder)
+      where
+        go : (b : Bool) → length (if b then get (e .params) (t .key) i (t .value) else t .value) ≤ 65536
+        go true = length-get (e .params) (t .key) i (t .value) (m .entries) l
+        go false = l
 
-  module _ (h : Here) (l : length (h .token .value) ≤ 65536) where
-    abbrev v : List ℕ
-    v = h .token .value
+    term-few : (u : Turn) → roomOf (e .options) (e .params) i u t ≤ stepMost
+    unfolding roomOf
+    term-few turn.Dropped = omega arith
+    term-few (turn.Switches off) = omega arith
+    term-few turn.LaidOut = go (is (t .kind) kind.Whitespace)
+      where
+        go : (b : Bool) → (if b then 0 else roomLaidOut (e .options) (shownBy (e .params) i t)) ≤ stepMost
+        go true = omega arith
+        go false = laidOut-few (shownBy (e .params) i t) length-shown
+    term-few turn.Copied = omega arith
 
-    few : {s u : State} → GrowsBy e v s u → Grows s u stepMost
-    few p = atMost stepMost (most-few v l) p
-
-    one : (k : TokenKind) (s : State) → Grows s (formatToken e h k s) stepMost
-    unfolding formatToken
-    one kind.Whitespace s = atMost stepMost (omega arith) (stays s)
-    one kind.LineComment s = few (lineComment e h)
-    one kind.BlockComment s = few (blockComment e h)
-    one kind.ReservedTopLevel s = few (topLevel e h (spanInfo e h s))
-    one kind.ReservedTopLevelNoIndent s = few (topLevelNoIndent e h (spanInfo e h s))
-    one kind.ReservedNewlineAfter s = few (newlineAfter e h (spanInfo e h s))
-    one kind.ReservedNewline s = few (newline e h)
-    one kind.Reserved s = few (reserved e h)
-    one kind.OpenParen s = few (opening e h (buildInfo (h .token ∷ h .after)))
-    one kind.CloseParen s = few (closing e h)
-    one kind.Placeholder s = placeholder (h .token) l
-    one kind.TypeSpecifier s = few (typeSpecifier e h)
-    one kind.String s = few (byValue e v)
-    one kind.Operator s = few (byValue e v)
-    one kind.Number s = few (byValue e v)
-    one kind.Word s = few (byValue e v)
-    one kind.Join s = few (byValue e v)
-
-    byTurn : (t : Turn) (s : State) → Grows s (takenAs t e h s) stepMost
-    unfolding takenAs formatNoChange
-    byTurn turn.Dropped s = atMost stepMost (omega arith) (stays s)
-    byTurn (turn.Switches off) s = atMost stepMost (omega arith) (stays s)
-    byTurn turn.LaidOut s = one (h .token .kind) s
-    byTurn turn.Copied s = atMost stepMost (omega arith) (pushes e v l)
-
-    marked : (t : Text) → length (bytesIn (mark t)) ≤ length (bytesIn t)
-    marked (fits k n b) = omega arith
-    marked (refused n) = omega arith
-
-    step : (t : Turn) (s : State) → Grows s (taken t e h s) stepMost
-    unfolding taken onText
-    step t s = shrinks {u = onText mark s} (marked (s .text)) (omega arith) then byTurn t (onText mark s)
-
-  -- ---- the run
-
-  finished : (n : ℕ) (t : Text) → length (bytesIn t) < 2 ^ 60 → Short (finish n t)
-  unfolding finish unlessRefused report
-  finished n (fits k f b) l = let h = length-trimmed b in omega arith
-  finished n (refused f) l = tt
-
-  later : (t : Text) (n : ℕ) (a : Answer) → Short a → Short (unlessRefused t n a)
-  unfolding unlessRefused
-  later (fits k f b) n a h = h
-  later (refused f) n a h = tt
-
-  run : (before ts : List Token) (w : Switch) (s : State) → Each (λ (t : Token). t .value) ts → Deep s → lengthIn s + length ts * stepMost < 2 ^ 60 → Short (formatFrom e before ts w s)
-  unfolding formatFrom
-  run before [] w s each d l = finished (length before) (s .text) (omega arith)
-  run before (t ∷ ts) w s each d l =
-      let h : Here = record { before = before; token = t; after = ts } in
+  sum-few : (w : Switch) (i : ℕ) (ts : List Token) → Each (λ (t : Token). t .value) ts → roomFrom (e .options) (e .params) w i ts ≤ length ts * stepMost
+  unfolding roomFrom
+  sum-few w i [] each = omega arith
+  sum-few w i (t ∷ ts) each =
       let u = turnOf w (t .kind) (t .value) in
-      let g = step h (each .0) u s in
-      let r : State = taken u e h s in
-      let k = g .more d in
-      later (r .text) (length before) _ (run (t ∷ before) ts (switchAfter u w) r (each .1) (g .deep d) (omega arith))
+      let h = term-few i t (each .0) u in
+      let k = sum-few (switchAfter u w) (counterAfter (e .params) u t i) ts (each .1) in
+      omega arith
+
+  -- the text is no longer than the sum
+  short : (n : ℕ) (a : Answer) → FitsIn e n a → n < 2 ^ 60 → Short a
+  unfolding FitsIn
+  short n (laid b l w) h k = omega arith
+  short n (refusal f p) h k = tt
 
   pub format-short : (ts : List Token) → Each (λ (t : Token). t .value) ts → length ts ≤ 1024 → Short (format e ts)
-  unfolding format start noIndentation
-  format-short ts each few = run [] ts switchedOn start each (omega arith) (omega arith)
+  unfolding room
+  format-short ts each few = let h = sum-few switchedOn 0 ts each in short _ (format e ts) (enough e ts) (omega arith)
 
 -- ---- a sheet
 
@@ -205,13 +168,13 @@ unfolding listOf
 length-listed g i zero = refl
 length-listed g i (suc k) = ap suc (length-listed g (suc i) k)
 
-indent-few : (w : ℕ) → w ≤ 256 → indentWidth (indentFrom w) ≤ 256
-unfolding indentFrom
+indent-few : (w : ℕ) → w ≤ 256 → fullIndent (indentFrom w) ≤ 32768
+unfolding indentFrom fullIndent
 indent-few w h = go (eqb w 256)
   where
-    go : (b : Bool) → indentWidth (if b then indent.Tabs else indent.Spaces w) ≤ 256
+    go : (b : Bool) → fullIndent (if b then indent.Tabs else indent.Spaces w) ≤ 32768
     go true = omega arith
-    go false = h
+    go false = omega arith
 
 module _ (s : List ℕ) (c : Counts) (l : length s ≤ 65536) where
   entries-few : Entries (paramsOf s c)

@@ -15,6 +15,8 @@ pub mod Formatter
 pub mod Answer
 pub mod Rows
 pub mod Compacted
+pub mod Room
+pub mod RoomRun
 pub mod Computed
 pub mod Encode
 pub mod Sheets
@@ -22,5 +24,6 @@ pub mod Comments
 pub mod Tabs
 pub mod Pointing
 pub mod Compacting
+pub mod Rooms
 pub mod Due
 pub mod Shown

@@ -41,7 +41,7 @@ pub fn lays_out(turn: Turn, kind: TokenKind) -> bool
 }
 
 // How token i is taken.
-fn turn_at(sheet: &[u8], base: usize, i: usize, switch: Switch, kind: TokenKind) -> Turn
+pub fn turn_at(sheet: &[u8], base: usize, i: usize, switch: Switch, kind: TokenKind) -> Turn
     requires { ⌜ Within (now sheet) base i ⌝ }
     requires { ⌜ kind ≡ tokenOf (now sheet) base i .kind ⌝ }
     ensures { λ r. ⌜ r ≡ turnOf (switchOf switch) (tokenOf (now (sheet .entry)) base i .kind) (tokenOf (now (sheet .entry)) base i .value) ⌝ }

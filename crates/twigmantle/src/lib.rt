@@ -11,12 +11,14 @@ ghost use Rattle.rules.specs.Answer.{refusal, format, reportOf, bufferOf, repor
 ghost use Rattle.rules.specs.Rows.{rows as rowsOf, placeholders as placeholdersOf, isShort, listFor, listedReport, listedBuffer, listAfter};
 ghost use Rattle.rules.specs.Due.{Faithful};
 ghost use Rattle.rules.specs.Shown.{Pointed};
+ghost use Rattle.rules.specs.Room.{roomFor};
 ghost use Rattle.rules.specs.Compacted.{refusal as unwritten, compact as compactOf, outcomeOf, bufferWith, Compacts};
 ghost use Rattle.records.specs.Sheeted.{Sheeted};
 ghost use Rattle.head.specs.Head.{defaultHead, rustHead, headWritten, headReturned};
 ghost use Rattle.rules.specs.Words.{bodyAt};
 ghost use Rattle.table.specs.Table.{Filled};
 ghost use Rattle.twigmantle.specs.Called.{calledAs, listCalled};
+ghost use Rattle.twigmantle.specs.Enough.{Enough};
 ghost use Rattle.twigmantle.specs.Once.{lacksTable, onceAs, listOnceAs, once, onceListed, onceList};
 use rules::Checked;
 use rules::Counts;
@@ -225,6 +227,15 @@ pub extern "C" fn twigmantle_layout_rows_once(
     ensures { λ r. ⌜ ((lacksTable (length (now (table .entry))) (checked (now (sheet .entry))) ≡ false) → Pointed (now (sheet .entry)) r (now (text .exit)) (now (rows .exit))) ⌝ }
 {
     called(sheet, text, rows, true, table, true)
+}
+
+// The room call: how long a buffer is always enough for the sheet.
+#[no_mangle]
+pub extern "C" fn twigmantle_room(sheet: &[u8]) -> Outcome
+    ensures { λ r. ⌜ r ≡ roomFor (now (sheet .entry)) ⌝ }
+    ensures { λ r. ⌜ Enough (now (sheet .entry)) r ⌝ }
+{
+    room::room_for(sheet)
 }
 
 // A refusal of a call that lays nothing out.

@@ -9,7 +9,7 @@ use lib.ListN.{length, drop, getD, length-append}
 use borrow.Author.Tests.{leb-true, leb-false, le-leb}
 use Rattle.rules.specs.declared.Case.{Case}
 use Rattle.rules.specs.Text.{isWhite, byteInCase, inCase, equalizeWhitespace, append}
-use Rattle.rules.proofs.Growth.{length-joined}
+use Rattle.rules.proofs.Lengths.{length-joined}
 use Rattle.ascii.specs.Part.{part}
 use Rattle.ascii.proofs.PartLaws.{length-part, part-next, part-end}
 use Rattle.text.specs.declared.Text.{Text as Code}

@@ -1,0 +1,4 @@
+pub mod ValueLaws
+pub mod TokenLaws
+pub mod SumLaws
+pub mod CallLaws
