@@ -2,11 +2,11 @@
  *
  * Link libtwigmantle.a (rt staticlib twigmantle; x86-64). It may call memcpy, memmove and memset, and nothing else; it allocates nothing.
  *
- * Pointers. Each must be good for the length given with it, and may be null where that length is 0. The sheet is only read. The sheet, the buffer, the list and the table may
- * not overlap, and no one else may write to any of them during the call: to compact a sheet, lend another buffer than its own.
+ * Pointers. Each must be good for the length given with it, and may be null where that length is 0. The sheet is only read, but by twigmantle_mend. The sheet, the buffer, the
+ * list, the table and the report may not overlap, and no one else may write to any of them during the call: to compact a sheet, lend another buffer than its own.
  *
  * Threads. The library keeps no state between calls or across them: any number of threads may call at once, each with a buffer and a list of its own. Sheets may be
- * shared. */
+ * shared, but one that is being mended. */
 #ifndef TWIGMANTLE_H
 #define TWIGMANTLE_H
 
@@ -78,6 +78,19 @@ struct twigmantle_outcome twigmantle_room(const uint8_t *sheet, size_t n);
  * refusal out is all zero. */
 struct twigmantle_outcome twigmantle_compact(const uint8_t *sheet, size_t n, uint8_t *out, size_t room);
 
+/* Mends the sheet of n bytes where it stands, so that it is not refused with 1 to 4, and gives as length how many words and bytes it changed. A bad option takes the Rust's
+ * default; a bad mode, and mode None with parameters, becomes Indexed if there are parameters and else None; a name that the mode then forbids becomes 0, 0. A bad packed
+ * word becomes TWIGMANTLE_KIND_WORD without key or alias, and key words that the class then forbids become 0. A place past the bodies becomes 0, 0. A body byte of 128 or
+ * more becomes `?`. Nothing else is changed, nothing at all in a sheet that passes refusals 1 to 4, and mending twice is mending once.
+ *
+ * The report, a list of so many words, gets a row of TWIGMANTLE_CHANGE_WORDS words (enum twigmantle_change) for each change, in the order of the file, and zero after the
+ * last row. With the old numbers put back the sheet is the one that came.
+ *
+ * Refusal 1 at 0 is that of the layout calls: nothing can be mended where the size is wrong; n 0 too. 13 at 0, this call's alone: fewer words than all those rows need. Both
+ * leave the sheet as it came and the report all zero. A report of TWIGMANTLE_MOST_REPORT words is never too short. words 0, and report may be null: serves a sheet with
+ * nothing to mend; for any other 13. So a call with words 0 tells whether a sheet is sound, and leaves it alone. */
+struct twigmantle_outcome twigmantle_mend(uint8_t *sheet, size_t n, uint32_t *report, size_t words);
+
 /* Writes the default head into out, n bytes: its 48 bytes, zero after them, and gives 48. An out under 48 bytes becomes zero, and it gives 0; n 0 too. */
 size_t twigmantle_default_head(uint8_t *out, size_t n);
 
@@ -113,7 +126,8 @@ enum twigmantle_refusal {
     TWIGMANTLE_REFUSAL_ROOM = 9,   /* the working text would be longer than the buffer */
     TWIGMANTLE_REFUSAL_LIST = 10,  /* fewer than TWIGMANTLE_ROW_WORDS words for each placeholder to be laid out; place 0; of twigmantle_layout_rows alone */
     TWIGMANTLE_REFUSAL_SHEET = 11, /* a buffer shorter than the new sheet; place 0; of twigmantle_compact alone */
-    TWIGMANTLE_REFUSAL_TABLE = 12  /* fewer than TWIGMANTLE_TABLE_WORDS words for each token; place 0; of the calls that read ahead once */
+    TWIGMANTLE_REFUSAL_TABLE = 12, /* fewer than TWIGMANTLE_TABLE_WORDS words for each token; place 0; of the calls that read ahead once */
+    TWIGMANTLE_REFUSAL_REPORT = 13 /* fewer than TWIGMANTLE_CHANGE_WORDS words for each change; place 0; of twigmantle_mend alone */
 };
 
 /* A row of the list, by word: where a placeholder's value stands in the text. */
@@ -124,6 +138,14 @@ enum twigmantle_row {
     TWIGMANTLE_ROW_BEFORE_HIGH = 3, /* the same, divided by 2^32 */
     TWIGMANTLE_ROW_SURVIVED = 4,    /* how many bytes of the value are in the text: white at its ends may have been cut, all of it too */
     TWIGMANTLE_ROW_WORDS = 5
+};
+
+/* A row of the mender's report, by word. */
+enum twigmantle_change {
+    TWIGMANTLE_CHANGE_OFFSET = 0, /* of a word before the bodies, of a byte in them; counted from the sheet's first byte */
+    TWIGMANTLE_CHANGE_OLD = 1,    /* what it was */
+    TWIGMANTLE_CHANGE_NEW = 2,    /* what it is; never the same */
+    TWIGMANTLE_CHANGE_WORDS = 3
 };
 
 #define TWIGMANTLE_TABLE_WORDS 6 /* of the table, for each token */
@@ -150,7 +172,9 @@ enum twigmantle_most {
     TWIGMANTLE_MOST_DEPTH = 128,  /* entries on the indent stack; open inline blocks */
     TWIGMANTLE_MOST_LIST = 5120,  /* words of a list with a row for each of TWIGMANTLE_MOST_TOKENS */
     TWIGMANTLE_MOST_TABLE = 6144, /* words of a table for as many tokens */
-    TWIGMANTLE_MOST_SHEET = 57904 /* bytes of a sheet with every count at its bound */
+    TWIGMANTLE_MOST_SHEET = 57904, /* bytes of a sheet with every count at its bound */
+    /* Words of a report with a row for each word and byte of such a sheet that can be bad: words 4 to 8 of the head, every word of every record, every byte of the bodies. */
+    TWIGMANTLE_MOST_REPORT = 117135
 };
 
 /* The head's twelve words, by number. */

@@ -75,6 +75,13 @@ mod linked {
         ) -> super::Outcome;
         #[cfg(feature = "room")]
         pub fn twigmantle_room(sheet: *const u8, n: usize) -> super::Outcome;
+        #[cfg(feature = "mend")]
+        pub fn twigmantle_mend(
+            sheet: *mut u8,
+            n: usize,
+            report: *mut u32,
+            words: usize,
+        ) -> super::Outcome;
     }
 }
 
@@ -208,6 +215,49 @@ pub fn room(sheet: &[u8]) -> Result<Result<u64, Refusal>, String> {
         (0, 0, sum) => Ok(Ok(sum)),
         (number @ 1.., place, 0) => Ok(Err(Refusal { number, place: place as usize })),
         _ => Err(format!("the numbers of the room do not go together: {outcome:?}")),
+    }
+}
+
+#[cfg(feature = "mend")]
+pub fn mend(sheet: &mut [u8], report: &mut [u32]) -> Outcome {
+    let (n, words) = (sheet.len(), report.len());
+    // Safe: both slices are as long as is said, and are lent to this call alone.
+    unsafe { linked::twigmantle_mend(sheet.as_mut_ptr(), n, report.as_mut_ptr(), words) }
+}
+
+/// The mended sheet and the changes in the report; an error if the call left a byte or a word that it
+/// may not leave, in the sheet, in the report or beside them.
+#[cfg(feature = "mend")]
+pub fn mended(
+    old: &[u8],
+    words: usize,
+) -> Result<Result<(Vec<u8>, Vec<[u32; 3]>), Refusal>, String> {
+    const BESIDE: usize = 8;
+    let beside = [PAINT; BESIDE];
+    let mut bytes = [&beside, old, &beside].concat();
+    let mut report = Lent::new(words);
+    let outcome = mend(&mut bytes[BESIDE..BESIDE + old.len()], report.lent());
+    let report = report.left("the report")?;
+    let (new, after) = bytes[BESIDE..].split_at(old.len());
+    if bytes[..BESIDE] != beside || *after != beside {
+        return Err(format!("a byte beside the sheet of {}", old.len()));
+    }
+    let rows =
+        (outcome.length as usize).checked_mul(3).and_then(|rows| report.split_at_checked(rows));
+    let (rows, rest) = rows.ok_or(format!("more changes than the report holds: {outcome:?}"))?;
+    if rest.iter().any(|&word| word != 0) {
+        return Err(format!("a word after the changes that is not zero: {outcome:?}"));
+    }
+    match (outcome.refusal, outcome.place, outcome.length) {
+        (0, 0, _) => {
+            let rows = rows.chunks_exact(3).map(|row| [row[0], row[1], row[2]]);
+            Ok(Ok((new.to_vec(), rows.collect())))
+        }
+        (number @ 1.., place, 0) if new == old => {
+            Ok(Err(Refusal { number, place: place as usize }))
+        }
+        (1.., _, 0) => Err(format!("refused, and the sheet is another: {outcome:?}")),
+        _ => Err(format!("the mender's numbers do not go together: {outcome:?}")),
     }
 }
 

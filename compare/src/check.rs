@@ -8,7 +8,7 @@ use crate::oracle::{self, Panic, Read};
 use crate::random::{self, Dice, Made, noise, white};
 use crate::sheet::{INLINE_ON, NAMES, Reader, Sheet};
 use crate::watched;
-use crate::{compacted, once, pointed, roomed};
+use crate::{compacted, mended, once, pointed, roomed};
 use crate::{show, watched::Height};
 
 #[derive(Default)]
@@ -70,9 +70,14 @@ pub fn run(n: u64, seed: u64) -> bool {
             compacted::call(&mut dice, &made.bytes)?;
             tally.add("e room for the sum", roomed::judged(&made.bytes, &ample)?);
             roomed::call(&made.bytes, &ample)?;
+            let mended = mended::judged(&made.bytes, &ample)?;
+            tally.add("f mended", mended.how);
+            mended.changed.iter().for_each(|word| tally.add("g changed", *word));
+            mended::call(&made.bytes)?;
             if turn % EVERY == 0 {
                 every_room(&mut tally, &made.bytes, &ample)?;
                 every_list(&mut tally, &made.bytes, &ample, room)?;
+                every_report(&mut tally, &made.bytes)?;
                 every_length(&mut tally, &made)?;
             }
             Ok(how)
@@ -92,7 +97,8 @@ pub fn run(n: u64, seed: u64) -> bool {
     tally.print();
     println!("each length from 0 to {} is met {} times or more", noise::LONGEST, least(&lengths));
     let with = [
-        (cfg!(feature = "room"), ", every call too"),
+        (cfg!(feature = "mend"), ", every call too"),
+        (cfg!(feature = "room"), ", every call but the mender too"),
         (cfg!(feature = "once"), ", both calls on both engines and the compacting too"),
         (cfg!(feature = "compact"), ", both calls and the compacting too"),
         (cfg!(feature = "rows"), ", both calls too"),
@@ -303,6 +309,17 @@ fn every_list(tally: &mut Tally, bytes: &[u8], ample: &Trial, room: usize) -> Re
     (0..=most).try_for_each(|words| pointed::call_at(bytes, ample, room, words))
 }
 
+/// Reports of every length from 0 up, where few words are needed.
+fn every_report(tally: &mut Tally, bytes: &[u8]) -> Result<(), String> {
+    let most = mended::need(bytes) + 8;
+    if most > 200 {
+        return Ok(());
+    }
+    tally.add("7 tried throughout", "sheets with every report");
+    tally.add_many("7 tried throughout", "reports", most as u64 + 1);
+    (0..=most).try_for_each(|words| mended::call_at(bytes, words))
+}
+
 /// A whole sheet cut to every length, and drawn out: by document 01 its size is then wrong.
 fn every_length(tally: &mut Tally, made: &Made) -> Result<(), String> {
     let (whole, longest) = (made.bytes.len(), made.bytes.len() + 64);
@@ -321,7 +338,8 @@ fn every_length(tally: &mut Tally, made: &Made) -> Result<(), String> {
         }
         let told = |said| format!("cut to {length}: {said}");
         call_at(cut, &refused, length % 70).map_err(told)?;
-        pointed::call_at(cut, &refused, length % 70, length % 12).map_err(told)
+        pointed::call_at(cut, &refused, length % 70, length % 12).map_err(told)?;
+        mended::call_at(cut, length % 12).map_err(told)
     })
 }
 

@@ -6,12 +6,14 @@ mod ahead;
 mod checks;
 mod compact;
 mod layout;
+mod mend;
 mod room;
 mod rows;
 mod text;
 
 use crate::watched::{Height, Stretch};
 pub use compact::compacted;
+pub use mend::{CHANGE, Change, mended};
 pub use room::room;
 pub use rows::{Row, WORDS, list};
 
@@ -58,6 +60,11 @@ impl Trial {
 pub struct Listed {
     pub answer: Answer,
     pub list: Vec<u32>,
+}
+
+/// The first offence of checks 1 to 4.
+pub fn check(sheet: &[u8]) -> Result<(), Refusal> {
+    checks::check(sheet).map(|_| ())
 }
 
 /// A buffer that no sheet fills.

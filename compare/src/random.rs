@@ -1,5 +1,6 @@
 //! Random sheets from a seed: the same seed gives the same sheets.
 
+mod bent;
 mod brim;
 mod comments;
 mod damage;
@@ -103,6 +104,7 @@ pub enum Maker {
     Values,
     Tabs,
     Edited,
+    Bent,
 }
 
 const USUAL: [Maker; 16] = [
@@ -134,6 +136,9 @@ pub fn make_any(dice: &mut Dice) -> Made {
     }
     if dice.one_in(12) {
         return make_with(dice, Maker::Edited, Size::Any, Inline::Any);
+    }
+    if dice.one_in(12) {
+        return make_with(dice, Maker::Bent, Size::Any, Inline::Any);
     }
     make_at_any(dice)
 }
@@ -173,14 +178,22 @@ pub fn make_with(dice: &mut Dice, maker: Maker, size: Size, inline: Inline) -> M
             let (bytes, expected) = noise::bytes(dice);
             return Made { maker: "noise", bytes, sheet: None, expected };
         }
+        Maker::Bent if dice.one_in(300) => {
+            let whole = bounds(dice, inline).bytes;
+            return bent(dice, whole);
+        }
         _ => {}
     }
     let whole = match maker {
         Maker::White if dice.one_in(4) => Maker::Comments,
         Maker::Tabs if dice.one_in(4) => dice.pick(&[Maker::Comments, Maker::Values]),
-        Maker::Damaged | Maker::Flipped | Maker::White | Maker::Tabs | Maker::Edited => {
-            dice.pick(&USUAL[..13])
-        }
+        Maker::Bent if dice.one_in(3) => dice.pick(&[Maker::Placeholders, Maker::Values]),
+        Maker::Damaged
+        | Maker::Flipped
+        | Maker::White
+        | Maker::Tabs
+        | Maker::Edited
+        | Maker::Bent => dice.pick(&USUAL[..13]),
         other => other,
     };
     let mut sheet = sheet(dice, whole, size);
@@ -206,8 +219,14 @@ pub fn make_with(dice: &mut Dice, maker: Maker, size: Size, inline: Inline) -> M
             let sheet = Sheet::decode(&bytes);
             Made { maker: "edited", bytes, sheet, expected: None }
         }
+        Maker::Bent => bent(dice, bytes),
         _ => Made { maker: name(maker), bytes, sheet: Some(sheet), expected: None },
     }
+}
+
+fn bent(dice: &mut Dice, bytes: Vec<u8>) -> Made {
+    let bytes = bent::bent(dice, bytes);
+    Made { maker: name(Maker::Bent), bytes, sheet: None, expected: None }
 }
 
 fn name(maker: Maker) -> &'static str {
@@ -230,6 +249,7 @@ fn name(maker: Maker) -> &'static str {
         Maker::Values => "values",
         Maker::Tabs => "tabs",
         Maker::Edited => "edited",
+        Maker::Bent => "bent",
     }
 }
 

@@ -3,7 +3,7 @@
 use std::path::Path;
 use std::{fs, io};
 
-use crate::model::{self, Answer, Refusal};
+use crate::model::{self, Answer, Change, Refusal};
 use crate::sheet::*;
 use crate::table;
 
@@ -185,6 +185,15 @@ fn samples() -> Vec<Sample> {
          (`edited.compact`), and the new sheet gives the same text.",
         filled(of(INDEXED), MODE_INDEXED, LIST),
     ));
+    samples.push(sample(
+        DAMAGED,
+        "As a failing tool leaves it, with a stray bit in each of three places: the case, the packed word of `FROM`, \
+         and the first letter of `notes`. Options and SQL are shown as they were before. \
+         `target/bin/mend_sheet < samples/damaged.sheet` writes the mended sheet (`damaged.mended`) to standard \
+         output and a line for each change (`damaged.report`) to standard error. What was bad is not guessed at: \
+         `FROM` is now a Word like any other, and the letter a `?`.",
+        filled(of(INDEXED), MODE_INDEXED, LIST),
+    ));
     samples.extend(refused());
     samples
 }
@@ -192,14 +201,30 @@ fn samples() -> Vec<Sample> {
 /// The sample with old text in its bodies.
 const EDITED: &str = "edited";
 
+/// The sample with stray bits.
+const DAMAGED: &str = "damaged";
+
 /// One value after another; in the edited sample each parameter's comes after a former one.
 fn encoded(sample: &Sample) -> Vec<u8> {
     let old: &[(&[u8], &[u8])] = &[(b"48213", b"48197" as &[u8]), (b"7", b"12")];
-    sample.sheet.encode(&mut |body: &mut Vec<u8>, value: &[u8]| {
+    let mut bytes = sample.sheet.encode(&mut |body: &mut Vec<u8>, value: &[u8]| {
         let former = old.iter().filter(|(new, _)| sample.name == EDITED && value == *new);
         former.for_each(|(_, old)| body.extend_from_slice(old));
         in_turn(body, value)
-    })
+    });
+    if sample.name == DAMAGED {
+        stray_bits(&mut bytes);
+    }
+    bytes
+}
+
+/// Word 6, the packed word of the fifth token, and the first byte of the seventh token's value.
+fn stray_bits(sheet: &mut [u8]) {
+    let word = |at: usize| sheet[at..at + 4].iter().rev().fold(0, |n, &b| n << 8 | usize::from(b));
+    let letter = sheet.len() - word(12) + word(48 + 20 * 6 + 4);
+    for (at, bit) in [(24, 2), (48 + 20 * 4 + 1, 0), (letter, 7)] {
+        sheet[at] ^= 1 << bit;
+    }
 }
 
 fn placeholders() -> [Sample; 4] {
@@ -265,6 +290,11 @@ fn printed(answer: &Answer) -> String {
     }
 }
 
+/// What the mending program prints on standard error.
+fn reported(changes: &[Change]) -> String {
+    changes.iter().map(|[at, old, new]| format!("{at}: {old} becomes {new}\n")).collect()
+}
+
 fn listed(items: impl Iterator<Item = String>) -> String {
     items.collect::<Vec<_>>().join(", ")
 }
@@ -322,6 +352,11 @@ fn section(sample: &Sample, text: &str) -> String {
     format!("\n## {name}\n\n{about}\n{settings}\n\n{sql}\ngives\n\n{}", block(text))
 }
 
+fn mending(report: &str, text: &str) -> String {
+    let (report, text) = (block(report), block(text));
+    format!("\nThe changes are\n\n{report}\nand the mended sheet gives\n\n{text}")
+}
+
 fn write(folder: &Path) -> io::Result<()> {
     fs::create_dir_all(folder)?;
     let mut page = OPENING.to_owned();
@@ -332,6 +367,13 @@ fn write(folder: &Path) -> io::Result<()> {
         if sample.name == EDITED {
             let new = model::compacted(&bytes, ROOM).expect("a sound sheet");
             fs::write(folder.join(sample.name).with_extension("compact"), new)?;
+        }
+        if sample.name == DAMAGED {
+            let (new, changes) = model::mended(&bytes, ROOM).expect("a sheet of the right size");
+            let report = reported(&changes);
+            page += &mending(&report, &printed(&table::judged(&new, ROOM)));
+            fs::write(folder.join(sample.name).with_extension("mended"), new)?;
+            fs::write(folder.join(sample.name).with_extension("report"), report)?;
         }
         fs::write(folder.join(sample.name).with_extension("sheet"), bytes)?;
         fs::write(folder.join(sample.name).with_extension("text"), text)?;

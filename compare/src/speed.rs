@@ -13,6 +13,8 @@ use shapes::{Maker, SHAPES};
 #[cfg(feature = "compact")]
 mod compact;
 mod costly;
+#[cfg(feature = "mend")]
+mod mend;
 #[cfg(feature = "once")]
 pub mod once;
 #[cfg(feature = "room")]
@@ -58,6 +60,8 @@ pub fn run(seed: u64, part: &str) -> bool {
     once::run(seed, part, None);
     #[cfg(feature = "room")]
     room::run(part);
+    #[cfg(feature = "mend")]
+    mend::run(part);
     true
 }
 

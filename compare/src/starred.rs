@@ -1,8 +1,9 @@
 //! Document 01's fourteen sheets, each with every variant and buffer that it names; further ones;
-//! those on word 7 at 2, which the Rust has not; those whose rows are known; and those whose
-//! compacted sheet is.
+//! those on word 7 at 2, which the Rust has not; those whose rows are known; those whose
+//! compacted sheet is; those whose room is; and damaged ones whose changes are.
 
 mod compact;
+mod mend;
 mod room;
 mod rows;
 
@@ -385,7 +386,8 @@ pub fn run() -> bool {
     let rows = rows::run();
     let compacted = compact::run();
     let room = room::run();
-    sheets && further && comments && tabs && rows && compacted && room && head()
+    let mended = mend::run();
+    sheets && further && comments && tabs && rows && compacted && room && mended && head()
 }
 
 /// The two heads of the library, where it is linked.

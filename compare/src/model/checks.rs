@@ -36,7 +36,8 @@ pub fn check(sheet: &[u8]) -> Result<Head, Refusal> {
     Ok(head)
 }
 
-fn head(sheet: &[u8]) -> Option<Head> {
+/// Check 1; `None` is its refusal.
+pub fn head(sheet: &[u8]) -> Option<Head> {
     if sheet.len() < HEAD {
         return None;
     }

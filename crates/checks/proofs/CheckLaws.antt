@@ -1,8 +1,9 @@
 -- The ways through the checks.
 use mathlib.Core.Bool.{Bool, true, false, not}
-use mathlib.Core.Path.{_≡_, sym, _∙_}
+use mathlib.Core.Path.{_≡_, refl, sym, _∙_}
 use mathlib.Core.List.{List}
 use Prim.Native.Nat.{ℕ, _+_, _≤_, _<_}
+use native.Mathlib.Omega.{arith}
 use lib.ListN.{length}
 use borrow.Author.Tests.{le-leb, lt-leb, eq-eqb, ne-eqb, not-true, not-false}
 use Rattle.rules.specs.declared.Counts.{Counts}
@@ -11,9 +12,10 @@ use Rattle.rules.specs.declared.Offence.the-variants.{At, Nowhere}
 use Rattle.rules.specs.declared.Checked.{Checked}
 use Rattle.rules.specs.declared.Checked.the-variants.{Sound, Size, Word, Place, Byte}
 use Rattle.rules.specs.Words.{countsOf, bodyAt}
-use Rattle.rules.specs.Checks.{firstOf, countsFit, words, places, bodyByte, bodyBytes, checkedAs, checked}
+use Rattle.rules.specs.Checks.{firstOf, countsFit, sizes, words, places, bodyByte, bodyBytes, checkedAs, checked}
 use Rattle.records.specs.Sheeted.{Few}
 use Rattle.checks.specs.Passes.{fit-few}
+use Rattle.checks.specs.Sound.{answer-sized}
 
 -- ---- checks 2 to 4
 
@@ -44,23 +46,40 @@ module _ (s : List ℕ) (c : Counts) (o : Offence) (ho : o ≡ words s c) where
 pub tested-few : (c : Counts) (fits : Bool) → fits ≡ countsFit c → not fits ≡ false → Few c
 tested-few c fits e h = fit-few c (sym e ∙ not-false fits h)
 
-pub too-short : (s : List ℕ) → length s < 48 → Size ≡ checked s
-unfolding checked
+pub too-short : (s : List ℕ) → length s < 48 → At 0 ≡ sizes s
 too-short s h = rw (lt-leb 48 (length s) h)
 
 module _ (s : List ℕ) (c : Counts) (fits : Bool) (long : 48 ≤ length s) (e : c ≡ countsOf s) (f : fits ≡ countsFit c) where
-  pub too-many : not fits ≡ true → Size ≡ checked s
-  unfolding checked
+  pub too-many : not fits ≡ true → At 0 ≡ sizes s
   too-many h = let g : countsFit c ≡ false = sym f ∙ not-true fits h in rw (le-leb 48 (length s) long, rw e at g)
 
   module _ (h : not fits ≡ false) (base : ℕ) (eb : base ≡ bodyAt c) where
     fit : countsFit c ≡ true
     fit = sym f ∙ not-false fits h
 
-    pub wrong-length : (length s ≡ base + c .bytes → ⊥) → Size ≡ checked s
-    unfolding checked
+    pub wrong-length : (length s ≡ base + c .bytes → ⊥) → At 0 ≡ sizes s
     wrong-length w = let n = ne-eqb (length s) (base + c .bytes) w in rw (le-leb 48 (length s) long, rw e at fit, rw (eb, e) at n)
 
-    pub right-length : (r : Checked) → r ≡ checkedAs s c → length s ≡ base + c .bytes → r ≡ checked s
-    unfolding checked
-    right-length r hr w = let n = eq-eqb (length s) (base + c .bytes) w in hr ∙ rw (le-leb 48 (length s) long, rw e at fit, rw (eb, e) at n, e)
+    pub right-length : length s ≡ base + c .bytes → Nowhere ≡ sizes s
+    right-length w = let n = eq-eqb (length s) (base + c .bytes) w in rw (le-leb 48 (length s) long, rw e at fit, rw (eb, e) at n)
+
+-- ---- the four in turn
+
+module _ (s : List ℕ) (o : Offence) (ho : o ≡ sizes s) where
+  pub size-found : (at : ℕ) → o ≡ At at → Size ≡ checked s
+  unfolding checked
+  size-found at e = rw (sym ho ∙ e)
+
+  pub head-in : o ≡ Nowhere → 48 ≤ length s
+  head-in n = answer-sized s o (countsOf s) ho n refl .head-in
+
+  module _ (c : Counts) (n : o ≡ Nowhere) (e : c ≡ countsOf s) where
+    pub few-in : Few c
+    few-in = answer-sized s o c ho n e .few
+
+    pub bodies-in : bodyAt c + c .bytes ≤ length s
+    bodies-in = omega (arith, answer-sized s o c ho n e .long)
+
+  pub size-fits : (c : Counts) (r : Checked) → o ≡ Nowhere → c ≡ countsOf s → r ≡ checkedAs s c → r ≡ checked s
+  unfolding checked
+  size-fits c r n e hr = hr ∙ rw (sym ho ∙ n, e)

@@ -17,6 +17,13 @@ use Rattle.rules.specs.Checks.{demanded, orLater, firstOf, countsFit, sizes, he
 use Rattle.records.specs.Sheeted.{Few, Sheeted}
 use Rattle.checks.specs.Passes.{demanded-holds, or-neither, none-of, fit-few, head-options, head-mode, token-words, nameless, token-within, keep-inside, param-inside, none-ascii}
 
+-- the counts and the length of the file are those of check 1
+pub record Sized (s : List ℕ) (c : Counts) : Type 0 where
+  pub head-in : 48 ≤ length s
+  pub counted : c ≡ countsOf s
+  pub few : Few c
+  pub long : length s ≡ bodyAt c + c .bytes
+
 isSound : Checked → Bool
 isSound (Sound c) = true
 isSound Size = false
@@ -32,7 +39,7 @@ past refusal Nowhere later c never h = (refl, h)
 
 -- the four checks find nothing
 record Passed (s : List ℕ) (c : Counts) : Type 0 where
-  pub sizes-pass : sizes s ≡ Nowhere
+  pub sizes-found : sizes s ≡ Nowhere
   pub words-pass : words s c ≡ Nowhere
   pub places-pass : places s c ≡ Nowhere
   pub bytes-pass : bodyBytes s c ≡ Nowhere
@@ -47,24 +54,30 @@ passed s c h =
     let h2 = past Word (words s k) t2 c (λ p. refl) (h1 .1) in
     let h3 = past Place (places s k) t3 c (λ p. refl) (h2 .1) in
     let h4 = past Byte (bodyBytes s k) (Sound k) c (λ p. refl) (h3 .1) in
-    (record { sizes-pass = h1 .0; words-pass = h2 .0; places-pass = h3 .0; bytes-pass = h4 .0 }, cc)
+    (record { sizes-found = h1 .0; words-pass = h2 .0; places-pass = h3 .0; bytes-pass = h4 .0 }, cc)
+
+-- check 1 finds nothing
+pub sizes-pass : (s : List ℕ) → sizes s ≡ Nowhere → Sized s (countsOf s)
+sizes-pass s h =
+    let k = countsOf s in
+    let l3 = demanded (eqb (length s) (bodyAt k + k .bytes)) 0 Nowhere in
+    let one = demanded-holds (leb 48 (length s)) 0 (demanded (countsFit k) 0 l3) h in
+    let two = demanded-holds (countsFit k) 0 l3 (one .1) in
+    let three = demanded-holds (eqb (length s) (bodyAt k + k .bytes)) 0 Nowhere (two .1) in
+    record { head-in = leb-true _ _ (one .0); counted = refl; few = fit-few k (two .0); long = eqb-true _ _ (three .0) }
+
+-- as a match on the answer of `check_size` has it
+pub answer-sized : (s : List ℕ) (o : Offence) (c : Counts) → o ≡ sizes s → o ≡ Nowhere → c ≡ countsOf s → Sized s c
+answer-sized s o c e n k = rw k (sizes-pass s (sym e ∙ n))
 
 module _ (s : List ℕ) (h : Passed s (countsOf s)) where
-  sized : (48 ≤ length s) × (Few (countsOf s) × (length s ≡ bodyAt (countsOf s) + countsOf s .bytes))
-  sized =
-      let k = countsOf s in
-      let l3 = demanded (eqb (length s) (bodyAt k + k .bytes)) 0 Nowhere in
-      let one = demanded-holds (leb 48 (length s)) 0 (demanded (countsFit k) 0 l3) (h .sizes-pass) in
-      let two = demanded-holds (countsFit k) 0 l3 (one .1) in
-      let three = demanded-holds (eqb (length s) (bodyAt k + k .bytes)) 0 Nowhere (two .1) in
-      (leb-true _ _ (one .0), (fit-few k (two .0), eqb-true _ _ (three .0)))
-
   sheeted : Sheeted s (countsOf s)
   sheeted =
       let k = countsOf s in
       let base = bodyAt k in
-      let few = sized .1 .0 in
-      let long = sized .1 .1 in
+      let size = sizes-pass s (h .sizes-found) in
+      let few = size .few in
+      let long = size .long in
       let tw = firstOf (tokenWords s) 20 tokensAt (k .tokens) in
       let pw = firstOf (paramWords s) 16 (paramsAt k) (k .params) in
       let tp = firstOf (tokenPlaces s (k .bytes)) 20 tokensAt (k .tokens) in
@@ -78,7 +91,7 @@ module _ (s : List ℕ) (h : Passed s (countsOf s)) where
         counted = refl;
         few = few;
         long = long;
-        options = head-options s (head .0) (sized .0);
+        options = head-options s (head .0) (size .head-in);
         mode = head-mode s (head .0);
         tokens = record {
           few = few .tokens;

@@ -3,7 +3,7 @@ ghost use mathlib.Core.Path.{_≡_};
 ghost use Prim.Native.Nat.{_+_, _*_, _≤_};
 ghost use lib.ListN.{length};
 ghost use Rattle.rules.specs.Words.{keepsAt, bodyAt};
-ghost use Rattle.rules.specs.Checks.{orLater, firstOf, countsFit, words, places, bodyByte, checkedAs, checked};
+ghost use Rattle.rules.specs.Checks.{orLater, firstOf, countsFit, sizes, words, places, bodyByte, checkedAs, checked};
 ghost use Rattle.records.specs.Sheeted.{Few};
 ghost use Rattle.checks.specs.Table.{isFound, sizeOf, offenceIn};
 use records::body_at;
@@ -182,20 +182,31 @@ fn counts_fit(c: Counts) -> bool
     b <= 32768
 }
 
-pub fn check(s: &[u8]) -> Checked
-    ensures { λ r. ⌜ r ≡ checked (now (s .entry)) ⌝ }
+// Check 1 alone.
+pub fn check_size(s: &[u8]) -> Offence
+    ensures { λ r. ⌜ r ≡ sizes (now (s .entry)) ⌝ }
 {
     if s.len() < 48 {
-        return Checked::Size;
+        return Offence::At(0);
     }
     // The counts before their sum, so that it does not wrap.
     let c = counts_of(s);
     if !counts_fit(c) {
-        return Checked::Size;
+        return Offence::At(0);
     }
     let bytes = c.bytes;
     if s.len() != body_at(c) + bytes {
+        return Offence::At(0);
+    }
+    Offence::Nowhere
+}
+
+pub fn check(s: &[u8]) -> Checked
+    ensures { λ r. ⌜ r ≡ checked (now (s .entry)) ⌝ }
+{
+    let size = check_size(s);
+    if let Offence::At(_) = size {
         return Checked::Size;
     }
-    check_counted(s, c)
+    check_counted(s, counts_of(s))
 }

@@ -2,14 +2,13 @@
 use mathlib.Core.Logic.{_⊎_, ⊎-elim}
 use mathlib.Core.Path.{_≡_, refl, sym, ap, _∙_}
 use mathlib.Core.Bool.{Bool, true, false}
-use mathlib.Core.List.{List, [], _∷_, _++_, append-assoc, append-nil}
+use mathlib.Core.List.{List, [], _∷_, _++_, append-nil}
 use Prim.Native.Nat.{ℕ, zero, suc, _+_, _-_, _*_, _≤_, _<_}
 use native.Mathlib.Nat.{zero-add, add-zero, add-suc}
 use native.Mathlib.Numerals.{add-one}
 use native.Mathlib.Omega.{arith}
 use lib.Dec.{eqb, ltb}
 use lib.ListN.{length, take, drop, set, getD, replicate, length-append, length-replicate, length-set, drop-of-length-le}
-use lib.Seq.{sets-eq, drop-drop}
 use borrow.Author.Tests.{lt-ltb, le-ltb, eq-eqb, ne-eqb}
 use Rattle.rules.specs.declared.Place.{Place}
 use Rattle.rules.specs.declared.Counts.{Counts}
@@ -22,39 +21,15 @@ use Rattle.records.specs.Sheeted.{Sheeted}
 use Rattle.marks.specs.Marks.{bitOf, countOf}
 use Rattle.marks.proofs.CountLaws.{count-le}
 use Rattle.ascii.specs.Part.{part}
-use Rattle.ascii.proofs.PartLaws.{part-cons, length-part}
+use Rattle.ascii.proofs.PartLaws.{length-part}
 use Rattle.text.specs.Put.{put}
-use Rattle.text.proofs.PutLaws.{put-nil, take-put, drop-put, put-snoc, drop-replicate}
+use Rattle.text.proofs.PutLaws.{put-nil, put-snoc, drop-replicate}
+use Rattle.word_bytes.specs.WordLaws.{part-four}
+use Rattle.word_bytes.proofs.PutLaws.{put-more}
 use Rattle.compact.specs.Marked.{Marked}
 use Rattle.compact.proofs.CoverLaws.{kept-bits}
 
 -- ---- four bytes
-
-module _ (d : List ℕ) (at : ℕ) where
-  pub put-four : (w x y z : ℕ) → at + 4 ≤ length d → set (set (set (set d at w) (at + 1) x) (at + 2) y) (at + 3) z ≡ put d at (w ∷ x ∷ y ∷ z ∷ [])
-  unfolding put
-  put-four w x y z h =
-      let e₁ : at + 1 ≡ suc at = omega arith in
-      let e₂ : at + 2 ≡ suc (suc at) = omega arith in
-      let e₃ : at + 3 ≡ suc (suc (suc at)) = omega arith in rw (e₁, e₂, e₃) (sets-eq (w ∷ x ∷ y ∷ z ∷ []) d at h)
-
-  part-four : at + 4 ≤ length d → (getD d at 0 ∷ getD d (at + 1) 0 ∷ getD d (at + 2) 0 ∷ getD d (at + 3) 0 ∷ []) ≡ part d at 4
-  part-four h =
-      let e₂ : at + 1 + 1 ≡ at + 2 = omega arith in
-      let e₃ : at + 2 + 1 ≡ at + 3 = omega arith in
-      rw (part-cons d at 3 (omega arith), part-cons d (at + 1) 2 (omega arith), e₂, part-cons d (at + 2) 1 (omega arith), e₃, part-cons d (at + 3) 0 (omega arith))
-
-  -- more behind what was written
-  put-more : (p q : List ℕ) (n : ℕ) → n ≡ at + length p → at ≤ length d → put (put d at p) n q ≡ put d at (p ++ q)
-  unfolding put
-  put-more p q n i h =
-      let k : ℕ = at + length p in
-      let e : k + length q ≡ at + length (p ++ q) = rw length-append (omega arith) in
-      ap (λ (m : ℕ). put (put d at p) m q) i
-      ∙ ap (λ (l : List ℕ). take k (put d at p) ++ q ++ l) (sym (drop-drop (length q) k (put d at p)) ∙ ap (drop (length q)) (drop-put d at p h) ∙ drop-drop (length q) k d)
-      ∙ ap (λ (l : List ℕ). l ++ q ++ drop (k + length q) d) (take-put d at p h)
-      ∙ ap (λ (l : List ℕ). l ++ drop (k + length q) d) (append-assoc (take at d) p q)
-      ∙ ap (λ (m : ℕ). take at d ++ (p ++ q) ++ drop m d) e
 
 pub by-copied : (d d′ s : List ℕ) (at : ℕ) → at + 4 ≤ length s → d′ ≡ put d at (getD s at 0 ∷ getD s (at + 1) 0 ∷ getD s (at + 2) 0 ∷ getD s (at + 3) 0 ∷ []) → d′ ≡ put d at (part s at 4)
 by-copied d d′ s at h e = e ∙ ap (put d at) (part-four s at h)

@@ -1,13 +1,12 @@
 // Wish 6: the sheet written anew, with only those body bytes that some place covers.
 ghost use mathlib.Core.Path.{_≡_};
 ghost use mathlib.Core.Bool.{_&&_, _||_};
-ghost use mathlib.Core.List.{_∷_, []};
 ghost use Prim.Native.Nat.{ℕ, _+_, _*_, _≤_, _<_};
 ghost use lib.Dec.{eqb};
 ghost use lib.ListN.{length, take, drop, replicate};
 ghost use Rattle.rules.specs.declared.Checked.the-variants as found;
 ghost use Rattle.rules.specs.Base.{if_then_else_};
-ghost use Rattle.rules.specs.Words.{wordBytes, placeAt, bodyAt};
+ghost use Rattle.rules.specs.Words.{placeAt, bodyAt};
 ghost use Rattle.rules.specs.Compacted.{wordCount, startsInToken, startsPlace, covers, isCovered, keptBytes, keptBefore, newBytes, movedWords, compactAs, outcomeOf, bufferWith};
 ghost use Rattle.records.specs.Sheeted.{Sheeted, Few};
 ghost use Rattle.marks.specs.Marks.{bitOf, marked, countOf, Long, Counted};
@@ -19,6 +18,8 @@ use rules::Place;
 use tokens::place_at;
 use tokens::to_usize;
 use tokens::word_at;
+use word_bytes::put_bytes;
+use word_bytes::put_word;
 
 // ---- the places of a sheet
 
@@ -96,30 +97,6 @@ fn mark_places(bits: &mut [u32], far: &mut [u32], sheet: &[u8], c: Counts)
 }
 
 // ---- one word of the new sheet
-
-fn put_bytes(out: &mut [u8], at: usize, a: u8, b: u8, c: u8, d: u8)
-    requires { ⌜ at + 4 ≤ length (now out) ⌝ }
-    ensures { λ r. ⌜ now (out .exit) ≡ put (now (out .entry)) at (a ∷ b ∷ c ∷ d ∷ []) ⌝ }
-{
-    out[at] = a;
-    out[at + 1] = b;
-    out[at + 2] = c;
-    out[at + 3] = d;
-}
-
-fn put_word(out: &mut [u8], at: usize, w: u32)
-    requires { ⌜ at + 4 ≤ length (now out) ⌝ }
-    ensures { λ r. ⌜ now (out .exit) ≡ put (now (out .entry)) at (wordBytes w) ⌝ }
-{
-    put_bytes(
-        out,
-        at,
-        (w % 256) as u8,
-        (w / 256 % 256) as u8,
-        (w / 65536 % 256) as u8,
-        (w / 16777216 % 256) as u8,
-    );
-}
 
 fn copy_word(out: &mut [u8], at: usize, sheet: &[u8])
     requires { ⌜ (at + 4 ≤ length (now out)) × (at + 4 ≤ length (now sheet)) ⌝ }

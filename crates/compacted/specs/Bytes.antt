@@ -4,35 +4,23 @@ use mathlib.Core.Path.{_≡_, refl, ap, sym, _∙_}
 use mathlib.Core.Logic.{_⊎_, inl, inr}
 use mathlib.Core.List.{List, _++_, append-assoc}
 use Prim.Native.Nat.{ℕ, zero, suc, _+_, _*_, _/_, _%_, _≤_, _<_}
-use native.Mathlib.Nat.{add-zero, eq-or-lt-of-le, le-of-suc-le-suc, div-div-eq-div-mul}
+use native.Mathlib.Nat.{eq-or-lt-of-le, le-of-suc-le-suc}
 use native.Mathlib.Omega.{arith}
-use lib.Dec.{eqb, lit<}
+use lib.Dec.{eqb}
 use lib.ListN.{length, take, drop, getD, length-append, length-drop}
-use lib.Seq.{getD-take, getD-drop, take-at, drop-at, drop-append-add, getD-append-add, length-take-le}
+use lib.Seq.{take-at, drop-at, drop-append-add, getD-append-add, length-take-le}
 use borrow.Author.Tests.{ne-eqb}
 use Rattle.rules.specs.declared.Counts.{Counts}
 use Rattle.rules.specs.Base.{if_then_else_}
 use Rattle.rules.specs.Words.{wordAt, wordBytes, placeAt, bodyAt}
 use Rattle.rules.specs.Compacted.{wordCount, startsPlace, keptBytes, keptBefore, newStart, newBytes, movedWords, compacted}
+use Rattle.word_bytes.specs.WordLaws.{word-part, word-back}
 
--- ---- words
-
-part-byte : (l : List ℕ) (at i : ℕ) → i < 4 → getD (take 4 (drop at l)) i 0 ≡ getD l (at + i) 0
-part-byte l at i h = getD-take 4 (drop at l) i 0 h ∙ getD-drop at l i 0
-
-word-part : (l : List ℕ) (at : ℕ) → wordAt l at ≡ wordAt (take 4 (drop at l)) 0
-unfolding wordAt
-word-part l at = rw (part-byte l at 0 (lit< tt), part-byte l at 1 (lit< tt), part-byte l at 2 (lit< tt), part-byte l at 3 (lit< tt), add-zero)
-
-word-back : (w : ℕ) → w < 4294967296 → wordAt (wordBytes w) 0 ≡ w
-unfolding wordAt
-word-back w h = rw (← div-div-eq-div-mul w 65536 256, ← div-div-eq-div-mul w 256 256) (omega arith)
+-- ---- the words that are written
 
 length-if : (b : Bool) (x y : List ℕ) (n : ℕ) → length x ≡ n → length y ≡ n → length (if b then x else y) ≡ n
 length-if true x y n p q = p
 length-if false x y n p q = q
-
--- ---- the words that are written
 
 module _ (s : List ℕ) (c : Counts) where
   length-new : (at : ℕ) → at + 4 ≤ length s → length (newBytes s c at) ≡ 4

@@ -27,7 +27,7 @@ fn at_most(x: u32, most: u32) -> bool
     x <= most
 }
 
-fn mode_fits(mode: u32, params: u32) -> bool
+pub fn mode_fits(mode: u32, params: u32) -> bool
     ensures { λ r. ⌜ r ≡ modeFits mode params ⌝ }
 {
     if mode == 0 {
@@ -49,7 +49,7 @@ pub fn head_words(s: &[u8]) -> Offence
     demand(mode, 16, demand(indent, 20, demand(casing, 24, o)))
 }
 
-fn packed_fits(w: u32) -> bool
+pub fn packed_fits(w: u32) -> bool
     ensures { λ r. ⌜ r ≡ packedFits w ⌝ }
 {
     if kind_bits(w) <= 16 {

@@ -13,6 +13,8 @@ ghost use Rattle.rules.specs.Due.{Faithful};
 ghost use Rattle.rules.specs.Shown.{Pointed};
 ghost use Rattle.rules.specs.Room.{roomFor};
 ghost use Rattle.rules.specs.Compacted.{refusal as unwritten, compact as compactOf, outcomeOf, bufferWith, Compacts};
+ghost use Rattle.mended.specs.Mended.{mend as mendOf, mendOutcome, sheetAfter, reportAfter};
+ghost use Rattle.mended.specs.Mends.{Mends};
 ghost use Rattle.records.specs.Sheeted.{Sheeted};
 ghost use Rattle.head.specs.Head.{defaultHead, rustHead, headWritten, headReturned};
 ghost use Rattle.rules.specs.Words.{bodyAt};
@@ -267,6 +269,17 @@ pub extern "C" fn twigmantle_compact(sheet: &[u8], out: &mut [u8]) -> Outcome
         Checked::Place(p) => not_written(out, 3, p),
         Checked::Byte(p) => not_written(out, 4, p),
     }
+}
+
+// The mending call: every bad word and byte of the sheet made good where it lies, and a report of what changed.
+#[no_mangle]
+pub extern "C" fn twigmantle_mend(sheet: &mut [u8], report: &mut [u32]) -> Outcome
+    ensures { λ r. ⌜ r ≡ mendOutcome (mendOf (now (sheet .entry)) (length (now (report .entry)))) ⌝ }
+    ensures { λ r. ⌜ now (sheet .exit) ≡ sheetAfter (now (sheet .entry)) (mendOf (now (sheet .entry)) (length (now (report .entry)))) ⌝ }
+    ensures { λ r. ⌜ now (report .exit) ≡ reportAfter (length (now (report .entry))) (mendOf (now (sheet .entry)) (length (now (report .entry)))) ⌝ }
+    ensures { λ r. ⌜ Mends (now (sheet .entry)) (length (now (report .entry))) r (now (sheet .exit)) (now (report .exit)) ⌝ }
+{
+    mend::mend(sheet, report)
 }
 
 // The default head: 48 bytes and zero after them; zero alone in a slice under 48.

@@ -1,48 +1,37 @@
-use native.Mathlib.Omega.{arith}
-use Rattle.checks.proofs.CheckLaws.{tested-few, too-short, too-many, wrong-length, right-length}
+use Rattle.checks.proofs.CheckLaws.{head-in, few-in, bodies-in, size-found, size-fits}
 use borrow.Author.Needs.{needs}
 use Rattle.checks.proofs.check.Statement.{statement}
 use Rattle.checks.proofs.check.Tie as tie
 
+check-size-requires : tie.Need-check-size-requires
+check-size-requires c κs = search needs
+
+enum-told : tie.Need-enum-told
+enum-told c = search needs
+
 returns : tie.Need-returns
-returns c = search (needs, too-short)
+returns c = search (needs, size-found)
+
+enum-told-2 : tie.Need-enum-told-2
+enum-told-2 c = search needs
 
 counts-of-requires : tie.Need-counts-of-requires
-counts-of-requires c κs = search needs
-
-counts-fit-requires : tie.Need-counts-fit-requires
-counts-fit-requires c κs = search needs
-
-returns-2 : tie.Need-returns-2
-returns-2 c = search (needs, too-many)
-
-body-at-requires : tie.Need-body-at-requires
-body-at-requires c κs = search (needs, tested-few)
-
-add-if3 : tie.Need-add-if3
-add-if3 c =
-    let f = tested-few (c .before .before .before .counts-of .result) _ (c .before .before .counts-fit .ensures) (c .before .if2 .left) in
-    omega arith
-
-returns-3 : tie.Need-returns-3
-returns-3 c = search (needs, wrong-length)
+counts-of-requires c κs = search (needs, head-in)
 
 check-counted-requires : tie.Need-check-counted-requires
-check-counted-requires c κs = (search (needs, tested-few), omega arith)
+check-counted-requires c κs = search (needs, few-in, bodies-in)
 
-returns-4 : tie.Need-returns-4
-returns-4 c = search (needs, right-length)
+returns-2 : tie.Need-returns-2
+returns-2 c = search (needs, size-fits)
 
 pub check-spec : {M : Type 1} → statement M
 check-spec =
     tie.close
     (tie.spec
+    check-size-requires
+    enum-told
     returns
+    enum-told-2
     counts-of-requires
-    counts-fit-requires
-    returns-2
-    body-at-requires
-    add-if3
-    returns-3
     check-counted-requires
-    returns-4)
+    returns-2)

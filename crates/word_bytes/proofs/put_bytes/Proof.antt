@@ -1,9 +1,9 @@
 use lib.ListN.{length-set}
 use native.Mathlib.Omega.{arith}
-use Rattle.compact.proofs.WriteLaws.{put-four}
+use Rattle.word_bytes.proofs.PutLaws.{put-four}
 use borrow.Author.Needs.{needs}
-use Rattle.compact.proofs.put_bytes.Statement.{statement}
-use Rattle.compact.proofs.put_bytes.Tie as tie
+use Rattle.word_bytes.proofs.put_bytes.Statement.{statement}
+use Rattle.word_bytes.proofs.put_bytes.Tie as tie
 
 slice-write-out : tie.Need-slice-write-out
 slice-write-out c = search needs

@@ -1,0 +1,4 @@
+pub mod ItemLaws
+pub mod ListLaws
+pub mod WriteLaws
+pub mod CallLaws
