@@ -384,8 +384,6 @@ static inline int can_be_refused(const uint8_t *sheet, uint32_t refusal, uint64_
         return is_nought(&s, (size_t)place);
     case TWIGMANTLE_REFUSAL_INDENT:
         return pushes && place >= TWIGMANTLE_MOST_DEPTH;
-    case TWIGMANTLE_REFUSAL_INLINE:
-        return kind == TWIGMANTLE_KIND_OPEN_PAREN && place >= TWIGMANTLE_MOST_DEPTH;
     case TWIGMANTLE_REFUSAL_FOLDED:
         return kind == TWIGMANTLE_KIND_CLOSE_PAREN && word_at(sheet, 4 * TWIGMANTLE_HEAD_INLINE) == TWIGMANTLE_INLINE_OFF;
     default:

@@ -121,7 +121,7 @@ enum twigmantle_refusal {
     TWIGMANTLE_REFUSAL_BYTE = 4,   /* a body byte of 128 or more: its offset */
     TWIGMANTLE_REFUSAL_NOUGHT = 5, /* mode Indexed, and a placeholder counts from one and says 0 */
     TWIGMANTLE_REFUSAL_INDENT = 6, /* one more entry on the indent stack than TWIGMANTLE_MOST_DEPTH */
-    TWIGMANTLE_REFUSAL_INLINE = 7, /* one more open inline block than that */
+    /* 7 is not given: no sheet meets it */
     TWIGMANTLE_REFUSAL_FOLDED = 8, /* a folded block closed with no unfolded entry left */
     TWIGMANTLE_REFUSAL_ROOM = 9,   /* the working text would be longer than the buffer */
     TWIGMANTLE_REFUSAL_LIST = 10,  /* fewer than TWIGMANTLE_ROW_WORDS words for each placeholder to be laid out; place 0; of twigmantle_layout_rows alone */

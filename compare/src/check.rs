@@ -239,15 +239,15 @@ fn panics(
     before(&watched::left(), model).map(|()| "panic, its token, heights before it")
 }
 
-/// Refusals 6 and 7 are not the Rust's; what was laid out before them is, and a panic that the
+/// Refusal 6 is not the Rust's; what was laid out before it is, and a panic that the
 /// Rust has for another token must come later.
 fn before_refusal(read: &Read, place: usize, model: &[Height]) -> Result<&'static str, String> {
     match read.heights() {
-        Ok(rust) => before(&rust, model).map(|()| "heights before 6 or 7"),
+        Ok(rust) => before(&rust, model).map(|()| "heights before 6"),
         Err(panic) if matches!(panic, Panic::Other(_)) || watched::token() <= place => {
             Err(format!("the Rust panics at token {} by {panic:?}", watched::token()))
         }
-        Err(_) => before(&watched::left(), model).map(|()| "heights before 6 or 7, a panic later"),
+        Err(_) => before(&watched::left(), model).map(|()| "heights before 6, a panic later"),
     }
 }
 

@@ -195,7 +195,7 @@ fn deep_sheets() -> Vec<Case> {
     ]
 }
 
-/// What counts for 6, and that it comes before 7: the Rust has neither bound.
+/// What counts for 6, a bound that the Rust has not; inline brackets meet no bound of their own.
 fn full_sheets() -> Vec<Case> {
     let at = |name, sheet, wanted| Case { name, sheet, room: ROOM, wanted };
     let inline = |count| with(of(&vec![(OPEN, "("); count]), |o| o.block = 40000);
@@ -210,7 +210,7 @@ fn full_sheets() -> Vec<Case> {
     let after_128 = |more: &[&str]| text(&[&["("; 128], more].concat());
     vec![
         at("128 inline brackets", inline(128), text(&["(".repeat(128).as_str()])),
-        at("6 before 7", inline(129), refusal(6, 128)),
+        at("129 inline brackets", inline(129), refusal(6, 128)),
         at("6 counts folded entries", folded, refusal(6, 128)),
         at("no 6 at a close", at_128(&[(CLOSE, ")")]), after_128(&[")"])),
         at("no 6 at a no-indent word", at_128(&union), after_128(&["UNION", "a"])),

@@ -424,7 +424,6 @@ impl<'s> Layout<'s> {
         self.refuse_if(self.entries.len() == DEEPEST, 6)?;
         let block = ahead::block(&self.tokens, self.at);
         let inlined = !self.inline.is_empty() || self.may_stand_inline(&block);
-        self.refuse_if(inlined && self.inline.len() == DEEPEST, 7)?;
         let folds = !inlined && self.folds();
         if inlined {
             self.handlers.push("- inline block");

@@ -1,11 +1,11 @@
 -- An opening bracket: its tests, and its rule from what its calls gave. Assumes nothing.
-use mathlib.Core.Path.{_≡_, refl, ap, _∙_}
+use mathlib.Core.Path.{_≡_, refl, sym, ap, _∙_}
 use mathlib.Core.Bool.{Bool, true, false, not, _&&_}
 use mathlib.Core.List.{List}
 use Prim.Native.Nat.{ℕ, _+_, _≤_, _<_}
 use native.Mathlib.Numerals.{add-one}
 use native.Mathlib.Omega.{arith}
-use borrow.Author.Tests.{not-true, not-false, le-leb, lt-leb}
+use borrow.Author.Tests.{not-true, not-false, le-leb, lt-leb, leb-false}
 use lib.Dec.{eqb}
 use lib.ListN.{length}
 use Rattle.rules.specs.declared.BlockInfo.{BlockInfo}
@@ -21,6 +21,7 @@ use Rattle.rules.specs.State.{State}
 use Rattle.rules.specs.Indentation.{Indentation, indentLevel, increaseBlockLevel, previousTopLevelReserved}
 use Rattle.rules.specs.InlineBlock.{isActive, isInlineBlock, beginsInline, beginIfPossible}
 use Rattle.rules.specs.Formatter.{kindIs, previousNonWhitespaceToken, foldsIn, cutsBefore, blankBetween, formatOpeningParentheses}
+use Rattle.stacks.specs.Laws.{length-stack, right-of}
 use Rattle.ascii.specs.Part.{part as bytes}
 use Rattle.text.specs.Held.{textOf, Laid}
 use Rattle.text.specs.declared.Text.{Text as CodeText}
@@ -43,7 +44,7 @@ use Rattle.state.proofs.Laws.{value-is}
 use Rattle.brackets.specs.Brackets.{caseIn, bracketIn, foldedIn, openingIn}
 use Rattle.brackets.proofs.Laws.{said, bracket-is, by-whole}
 
--- ---- whether the block is inline, and whether there is room
+-- ---- whether the block is inline
 
 module _ (o : FormatOptions) (info : BlockInfo) (l : List ℕ) (a : Bool) (e : a ≡ isActive l) where
   pub by-active : a ≡ true → true ≡ beginsInline o info l
@@ -53,13 +54,6 @@ module _ (o : FormatOptions) (info : BlockInfo) (l : List ℕ) (a : Bool) (e : a
   pub by-fitting : (b : Bool) → a ≡ false → b ≡ isInlineBlock o info → b ≡ beginsInline o info l
   unfolding beginsInline
   by-fitting b h g = rw (← e, h) g
-
-module _ (inlined : Bool) (l : List ℕ) where
-  pub by-not-inlined : not inlined ≡ true → false ≡ (inlined && full l)
-  by-not-inlined h = rw (not-true inlined h)
-
-  pub by-room : (b : Bool) → not inlined ≡ false → b ≡ full l → b ≡ (inlined && full l)
-  by-room b h e = rw (not-false inlined h) e
 
 -- ---- whether the block is folded
 
@@ -102,10 +96,10 @@ module _ (s : List ℕ) (x : Context) (i : ℕ) (inlined : Bool) (n : Indentatio
 
 -- ---- the text
 
-pub by-opening-at : (s : List ℕ) (x : Context) (i : ℕ) (n : Indentation ℕ) (l : List ℕ) (inlined folded : Bool) (level : ℕ) (v : Value) (six seven cuts between isCase : Bool)
-    → v ≡ valueIn s x i → six ≡ full (n .indentTypes) → seven ≡ (inlined && full l) → cuts ≡ cutsBefore (hereIn s x i) → between ≡ blankBetween (hereIn s x i) → isCase ≡ isLower (bytes s (v .start) (v .len)) (text "case")
-    → record { six = six; seven = seven; cuts = cuts; between = between; folded = folded; inlined = inlined; «is_case» = isCase; level = level } ≡ openingIn s x i n l inlined folded level
-by-opening-at s x i n l inlined folded level v six seven cuts between isCase e a b c d k = rw (a, b, c, d, k, value-is s x i v e)
+pub by-opening-at : (s : List ℕ) (x : Context) (i : ℕ) (n : Indentation ℕ) (inlined folded : Bool) (level : ℕ) (v : Value) (six cuts between isCase : Bool)
+    → v ≡ valueIn s x i → six ≡ full (n .indentTypes) → cuts ≡ cutsBefore (hereIn s x i) → between ≡ blankBetween (hereIn s x i) → isCase ≡ isLower (bytes s (v .start) (v .len)) (text "case")
+    → record { six = six; cuts = cuts; between = between; folded = folded; inlined = inlined; «is_case» = isCase; level = level } ≡ openingIn s x i n inlined folded level
+by-opening-at s x i n inlined folded level v six cuts between isCase e a c d k = rw (a, c, d, k, value-is s x i v e)
 
 pub by-push-opening : (s : List ℕ) (x : Context) (i : ℕ) (o : FormatOptions) (how : Opening) (v : Value) (k : Case) (w : Text) (cap : ℕ) (t : CodeText) (q : List ℕ)
     → v ≡ valueIn s x i → k ≡ caseIn s x i → Laid cap (opening cap o how (inCase k (bytes s (v .start) (v .len))) w) t q → Laid cap (opening cap o how (bracketIn s x i) w) t q
@@ -144,9 +138,9 @@ module _ (s : List ℕ) (x : Context) (i : ℕ) (st : Code) (d : List ℕ) (read
       → level ≡ indentLevel false (increaseBlockLevel folded stacks)
       → formatOpeningParentheses (envIn s x (length d)) (hereIn s x i) info now
       ≡ record {
-        text = opening (length d) (x .options) (openingIn s x i stacks blocks inlined folded level) (bracketIn s x i) (textOf (st .text) d);
+        text = opening (length d) (x .options) (openingIn s x i stacks inlined folded level) (bracketIn s x i) (textOf (st .text) d);
         indentation = onWords name (increaseBlockLevel folded stacks);
-        inlineBlock = beginIfPossible inlined (info .length) blocks;
+        inlineBlock = beginIfPossible (inlined && not (full (stacks .indentTypes))) (info .length) blocks;
         blockLevel = st .«block_level» + 1;
         index = st .index;
       }
@@ -155,19 +149,30 @@ module _ (s : List ℕ) (x : Context) (i : ℕ) (st : Code) (d : List ℕ) (read
       rw (el, ← level-is folded, block-words name folded stacks, bracket-is s x (length d) i (ready .known), ← full-is, add-one (st .«block_level»), ef, folded-is inlined, en, ready .known .options)
       (halves.opening (envIn s x (length d)) (hereIn s x i) now info)
 
-  pub by-opening : (info : BlockInfo) (inlined folded : Bool) (into : Stacks) (level : ℕ) (how : Opening) (t : CodeText) (l : InlineBlock) (q : List ℕ)
+  -- 6 is not given where a block begins, so the indent stack has room; and no more inline blocks are open than it has entries
+  pub by-room : (inlined folded : Bool) (level : ℕ) (how : Opening) (begins : Bool) → length blocks ≤ length (stacks .indentTypes)
+      → how ≡ openingIn s x i stacks inlined folded level → begins ≡ (inlined && not (how .six)) → begins ≡ true → st .«inline_block» .level < 128
+  unfolding block.inlineBlockOf full
+  by-room inlined folded level how begins under eh eb more =
+      let n = length-stack 0 (st .«inline_block» .level) (st .«inline_block» .lengths) in
+      let six : how .six ≡ false = not-true (how .six) (right-of inlined (not (how .six)) (sym eb ∙ more)) in
+      let h = leb-false 128 (length (stacks .indentTypes)) (rw eh at six) in
+      omega arith
+
+  pub by-opening : (info : BlockInfo) (inlined folded : Bool) (into : Stacks) (level : ℕ) (how : Opening) (begun : Bool) (t : CodeText) (l : InlineBlock) (q : List ℕ)
       → inlined ≡ beginsInline (x .options) info blocks
       → folded ≡ foldedIn s x i inlined stacks
       → Stands (increaseBlockLevel folded stacks) into
       → level ≡ indentLevel false (indentationOf into)
-      → how ≡ openingIn s x i stacks blocks inlined folded level
+      → how ≡ openingIn s x i stacks inlined folded level
+      → begun ≡ (inlined && not (how .six))
       → Laid (length d) (opening (length d) (x .options) how (bracketIn s x i) (textOf (st .text) d)) t q
-      → block.Stands (beginIfPossible inlined (info .length) blocks) l
+      → block.Stands (beginIfPossible begun (info .length) blocks) l
       → Handled s x i (given formatOpeningParentheses info) st d (record { text = t; indentation = into; «inline_block» = l; «block_level» = st .«block_level» + 1; index = st .index }) q
-  by-opening info inlined folded into level how t l q en ef stands el eh laid inline =
+  by-opening info inlined folded into level how begun t l q en ef stands el eh eb laid inline =
       let k = ready .steady .level in
       by-whole s x i (given formatOpeningParentheses info) st d ready
       (opening (length d) (x .options) how (bracketIn s x i) (textOf (st .text) d))
-      (increaseBlockLevel folded stacks) (beginIfPossible inlined (info .length) blocks) (st .«block_level» + 1) t into l q
+      (increaseBlockLevel folded stacks) (beginIfPossible begun (info .length) blocks) (st .«block_level» + 1) t into l q
       laid stands (block-below (i + 1) stacks (below-up (omega arith) (ready .steady .words)) folded) inline (omega arith)
-      (rw eh (opening-rule info inlined folded level en ef (el ∙ ap (indentLevel false) (stands .is))))
+      (rw (eb, eh) (opening-rule info inlined folded level en ef (el ∙ ap (indentLevel false) (stands .is))))

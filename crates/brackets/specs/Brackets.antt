@@ -32,11 +32,10 @@ foldedIn s x i inlined n =
     not inlined && (isSome (x .options .«max_inline_top_level») && (holds (kindIs ReservedTopLevel) (previousNonWhitespaceToken (hereIn s x i)) && holds foldsIn (previousTopLevelReserved n)))
 
 -- what the bracket does to the text, level being that after it
-abbrev pub openingIn : List ℕ → Context → ℕ → Indentation ℕ → List ℕ → Bool → Bool → ℕ → Opening
-openingIn s x i n blocks inlined folded level =
+abbrev pub openingIn : List ℕ → Context → ℕ → Indentation ℕ → Bool → Bool → ℕ → Opening
+openingIn s x i n inlined folded level =
     record {
       six = full (n .indentTypes);
-      seven = inlined && full blocks;
       cuts = cutsBefore (hereIn s x i);
       between = blankBetween (hereIn s x i);
       folded = folded;

@@ -1,9 +1,8 @@
 // Handlers of brackets: a block begins, and a block ends.
 ghost use mathlib.Core.Path.{_≡_};
-ghost use mathlib.Core.Bool.{_&&_};
 ghost use Prim.Native.Nat.{_≤_, _<_};
 ghost use lib.ListN.{length};
-ghost use Rattle.rules.specs.Base.{holds, isSome, full};
+ghost use Rattle.rules.specs.Base.{holds, isSome};
 ghost use Rattle.rules.specs.InlineBlock.{beginsInline};
 ghost use Rattle.rules.specs.Formatter.{foldsIn, formatOpeningParentheses, formatClosingParentheses};
 ghost use Rattle.indentation.specs.Of.{spanIn, indentationOf, Clean};
@@ -20,6 +19,7 @@ use reserved::case_of;
 use rules::BlockInfo;
 use rules::FormatOptions;
 use rules::Limit;
+use stacks::both;
 use state::Context;
 use state::State;
 use state::value_of;
@@ -82,28 +82,17 @@ fn is_folded(sheet: &[u8], x: Context, i: usize, inlined: bool, stacks: Indentat
     folds_in(stacks.previous_top_level_reserved())
 }
 
-// Refusal 7: there is no room for one inline block more.
-fn is_over(inlined: bool, inline: InlineBlock) -> bool
-    ensures { λ r. ⌜ r ≡ (inlined && full (inlineBlockOf inline)) ⌝ }
-{
-    if !inlined {
-        return false;
-    }
-    inline.is_full()
-}
-
 fn opening_at(
     sheet: &[u8],
     x: Context,
     i: usize,
     stacks: Indentation,
-    inline: InlineBlock,
     inlined: bool,
     folded: bool,
     level: usize,
 ) -> Opening
     requires { ⌜ (Known (now sheet) x) × (i < x .counts .tokens) × (Clean stacks) ⌝ }
-    ensures { λ r. ⌜ r ≡ openingIn (now (sheet .entry)) x i (indentationOf stacks) (inlineBlockOf inline) inlined folded level ⌝ }
+    ensures { λ r. ⌜ r ≡ openingIn (now (sheet .entry)) x i (indentationOf stacks) inlined folded level ⌝ }
 {
     let v = value_of(sheet, x, i);
     let c = x.counts;
@@ -111,7 +100,6 @@ fn opening_at(
     let base = x.base;
     Opening {
         six: stacks.is_full(),
-        seven: is_over(inlined, inline),
         cuts: around::cuts_before(sheet, base, n, i),
         between: around::blank_between(sheet, base, n, i),
         folded,
@@ -141,6 +129,7 @@ pub fn format_opening_parentheses(
     info: BlockInfo,
 ) -> State
     requires { ⌜ Ready (now sheet) x i s (now query) ⌝ }
+    requires { ⌜ length (inlineBlockOf (s .«inline_block»)) ≤ length (indentationOf (s .indentation) .indentTypes) ⌝ }
     ensures { λ r. ⌜ Handled (now (sheet .entry)) x i (given formatOpeningParentheses info) s (now (query .entry)) r (now (query .exit)) ⌝ }
 {
     let stacks = s.indentation;
@@ -150,12 +139,14 @@ pub fn format_opening_parentheses(
     let folded = is_folded(sheet, x, i, inlined, stacks);
     let into = stacks.increase_block_level(folded);
     let level = into.indent_level(false);
-    let how = opening_at(sheet, x, i, stacks, inline, inlined, folded, level);
+    let how = opening_at(sheet, x, i, stacks, inlined, folded, level);
+    // Where refusal 6 is given no block begins.
+    let begins = both(inlined, !how.six);
     let t = s.text;
     State {
         text: push_opening(query, t, sheet, x, i, how),
         indentation: into,
-        inline_block: inline.begin_if_possible(inlined, info.length),
+        inline_block: inline.begin_if_possible(begins, info.length),
         block_level: s.block_level + 1,
         index: s.index,
     }

@@ -17,7 +17,11 @@ use Rattle.around.specs.Readable.{sheeted-readable}
 use Rattle.rules.specs.Base.{_▹_}
 use Rattle.rules.specs.Rows.{Row, clip, shift, trimRow}
 use Rattle.rows.specs.Listing.{rowsIn, listing}
-use Rattle.rules.specs.Sheet.{tokenOf}
+use Rattle.rules.specs.Sheet.{tokenOf, tokensFrom, tokensBefore}
+use Rattle.rules.specs.Nested.{Nested}
+use Rattle.rules.proofs.Inner.{blocks-few}
+use Rattle.rules.proofs.Nested.{nested-start, nested-next}
+use Rattle.around.specs.Lists.{tokens-step}
 use Rattle.rules.specs.Span.{sortOf, sortIn}
 use Rattle.ahead.proofs.Laws.{by-sort}
 use Rattle.rules.specs.Indentation.{noIndentation}
@@ -39,7 +43,7 @@ use Rattle.report.specs.declared.Finished.{Finished}
 use Rattle.around.specs.Run.{runFrom, turnAt, stepAt, run-turn, run-end, run-all}
 use Rattle.state.specs.declared.State.{State as Code}
 use Rattle.state.specs.declared.Context.{Context}
-use Rattle.state.specs.Words.{none-words}
+use Rattle.state.specs.Words.{onWords, none-words}
 use Rattle.state.specs.Below.{none-below}
 use Rattle.state.specs.Of.{valueIn, wordOf, stateOf, withText, Known, Steady, Ready, envIn, hereIn, Handled}
 use Rattle.state.proofs.Laws.{value-is}
@@ -163,9 +167,18 @@ pub record Running (s : List ℕ) (x : Context) (cap i : ℕ) (st : Code) (w : C
   pub fine : st .text .fault ≡ 0
   pub steady : Steady i (st) q
   pub left : leftAt s x cap i st w q ≡ answerIn s x cap
+  pub nested : Nested (switchOf w) (tokensFrom s (x .base) i (x .counts .tokens - i)) (stateOf s (x .base) st q)
 
 pub run-starts : (s : List ℕ) (x : Context) (st : Code) (w : CodeSwitch) (cap : ℕ) (q : List ℕ) → Known s x → Begun st cap q → switchOf w ≡ switchedOn → Running s x cap 0 st w q
-run-starts s x st w cap q known b e = record { few = omega arith; room = b .room; fine = b .fine; steady = b .steady; left = by-start s x st w cap q known b e }
+run-starts s x st w cap q known b e = record { few = omega arith; room = b .room; fine = b .fine; steady = b .steady; left = by-start s x st w cap q known b e; nested = rw (b .state s (x .base), e) (nested-start _) }
+
+-- so many inline blocks are open, at most, as the indent stack has entries
+pub run-under : (s : List ℕ) (x : Context) (cap i : ℕ) (st : Code) (w : CodeSwitch) (q : List ℕ) → Running s x cap i st w q → length (block.inlineBlockOf (st .«inline_block»)) ≤ length (stacks.indentationOf (st .indentation) .indentTypes)
+unfolding stateOf onWords
+run-under s x cap i st w q run =
+    let u = run .nested .under in
+    let k = blocks-few (stacks.indentationOf (st .indentation) .indentTypes) in
+    omega arith
 
 pub run-ready : (s : List ℕ) (x : Context) (cap i : ℕ) (st : Code) (w : CodeSwitch) (q : List ℕ) (t : CodeText) → Known s x → i < x .counts .tokens → Running s x cap i st w q → t ≡ marked (st .text) → Ready s x i (withText st t) q
 run-ready s x cap i st w q t known here r e =
@@ -177,6 +190,16 @@ run-ready s x cap i st w q t known here r e =
     }
 
 module _ (s : List ℕ) (x : Context) (cap i : ℕ) (st : Code) (w : CodeSwitch) (d : List ℕ) (r : Code) (u : CodeSwitch) (q : List ℕ) (run : Running s x cap i st w d) (here : i < x .counts .tokens) (turn : Stepped s x i st w d r u q) where
+  -- the state after the token is the rules', so it keeps their invariant
+  nested-goes : r .text .fault ≡ 0 → Nested (switchOf u) (tokensFrom s (x .base) (i + 1) (x .counts .tokens - (i + 1))) (stateOf s (x .base) r q)
+  unfolding stateOf
+  nested-goes z =
+      let is = stepped-is s x i st w d r u q cap (run .room) (run .steady .held) turn in
+      let fits-now : stateOf s (x .base) r q .text ≡ fits (r .text .floor) (r .text .low) (take (r .text .len) q) = text-fits (r .text) q z in
+      rw (turn .switch, is)
+      (nested-next (envIn s x cap) (tokensBefore s (x .base) i) (tokenOf s (x .base) i) (tokensFrom s (x .base) (i + 1) (x .counts .tokens - (i + 1))) (switchOf w) (stateOf s (x .base) st d)
+      (rw (tokens-step s (x .base) i (x .counts .tokens) here) at (run .nested)) _ _ _ (ap (λ (y : State). y .text) (sym is) ∙ fits-now))
+
   pub run-goes : r .text .fault ≡ 0 → Running s x cap (i + 1) r u q
   run-goes z =
       record {
@@ -185,6 +208,7 @@ module _ (s : List ℕ) (x : Context) (cap i : ℕ) (st : Code) (w : CodeSwitch)
         fine = z;
         steady = turn .taken .steady;
         left = by-turn s x i st w d r u q (answerIn s x cap) cap (run .room) (run .steady .held) here turn (run .left) z;
+        nested = nested-goes z;
       }
 
   pub run-refused : (r .text .fault ≡ 0 → ⊥) → record { refusal = r .text .fault; place = i; length = 0; lines = 0; width = 0 } ≡ reportOf (answerIn s x cap)

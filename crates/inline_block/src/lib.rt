@@ -1,10 +1,10 @@
 // inline_block.rs: the open inline blocks by value. What a block holds is read ahead, in another crate.
 ghost use mathlib.Core.Path.{_≡_};
 ghost use mathlib.Core.List.{[], tail};
+ghost use mathlib.Core.Bool.{true};
+ghost use Prim.Native.Nat.{_<_};
 ghost use Rattle.rules.specs.InlineBlock.{isActive, curLen, beginIfPossible};
-ghost use Rattle.rules.specs.Base.{full};
 ghost use Rattle.inline_block.specs.Of.{inlineBlockOf, Clean, Stands};
-use stacks::both;
 use stacks::chosen;
 use stacks::less;
 use stacks::more_if;
@@ -26,19 +26,19 @@ impl InlineBlock {
         }
     }
 
-    // A full stack stays: refusal 7 is given before.
-    pub fn begin_if_possible(mut self, inlined: bool, length: u32) -> Self
+    // There is room for one more: an open inline block has its entry on the indent stack, which is not full.
+    pub fn begin_if_possible(mut self, begins: bool, length: u32) -> Self
         requires { ⌜ Clean self ⌝ }
-        ensures { λ r. ⌜ Stands (beginIfPossible inlined length (inlineBlockOf self)) r ⌝ }
+        requires { ⌜ (begins ≡ true → self .level < 128) ⌝ }
+        ensures { λ r. ⌜ Stands (beginIfPossible begins length (inlineBlockOf self)) r ⌝ }
     {
         let n = self.level;
-        let grows = both(inlined, n < 128);
         let at = within(n);
         let mut lengths = self.lengths;
         let old = lengths[at];
-        lengths[at] = chosen(grows, length, old);
+        lengths[at] = chosen(begins, length, old);
         self.lengths = lengths;
-        self.level = more_if(grows, n);
+        self.level = more_if(begins, n);
         self
     }
 
@@ -58,12 +58,6 @@ impl InlineBlock {
         ensures { λ r. ⌜ r ≡ isActive (inlineBlockOf self) ⌝ }
     {
         0 < self.level
-    }
-
-    pub fn is_full(self) -> bool
-        ensures { λ r. ⌜ r ≡ full (inlineBlockOf self) ⌝ }
-    {
-        128 <= self.level
     }
 
     pub fn cur_len(self) -> u32

@@ -268,11 +268,11 @@ module _ (e : Env) (h : Here) (s : State) where
       record {
         text =
             s .text
-            ▹ Query.beforeOpening (e .room) (full (s .indentation .indentTypes)) (inlined && full (s .inlineBlock)) (rule.cutsBefore h) (rule.blankBetween h) folded
+            ▹ Query.beforeOpening (e .room) (full (s .indentation .indentTypes)) (rule.cutsBefore h) (rule.blankBetween h) folded
             ▹ append (e .room) (bracketOf e h)
             ▹ Query.afterOpening (e .room) (e .options) inlined (isLower (h .token .value) (bytes "case")) (indentLevel false into);
         indentation = into;
-        inlineBlock = beginIfPossible inlined (info .length) (s .inlineBlock);
+        inlineBlock = beginIfPossible (inlined && not (full (s .indentation .indentTypes))) (info .length) (s .inlineBlock);
         blockLevel = suc (s .blockLevel);
         index = s .index;
       })

@@ -85,10 +85,10 @@ placeholder room five v w = w ▹ when five (refuse 5) ▹ withSpaces room v
 unfoldable pub fold : ℕ → Text → Text
 fold room w = w ▹ cutWhite ▹ blank room
 
--- refusals 6 and 7, and the blanks before an opening bracket
-unfoldable pub beforeOpening : ℕ → Bool → Bool → Bool → Bool → Bool → Text → Text
-beforeOpening room six seven cuts between folded w =
-    w ▹ when six (refuse 6) ▹ when seven (refuse 7) ▹ when cuts cutBlanks ▹ when between (oneBlank room) ▹ when folded (fold room)
+-- refusal 6, and the blanks before an opening bracket
+unfoldable pub beforeOpening : ℕ → Bool → Bool → Bool → Bool → Text → Text
+beforeOpening room six cuts between folded w =
+    w ▹ when six (refuse 6) ▹ when cuts cutBlanks ▹ when between (oneBlank room) ▹ when folded (fold room)
 
 -- a new line after it, but for an inline block, where `case` alone has a blank after it
 unfoldable pub afterOpening : ℕ → FormatOptions → Bool → Bool → ℕ → Text → Text

@@ -9,6 +9,6 @@ use Rattle.query_brackets.specs.declared.Opening.{Opening}
 
 unfoldable pub opening : ℕ → FormatOptions → Opening → List ℕ → Text → Text
 opening room o how v w =
-    w ▹ beforeOpening room (how .six) (how .seven) (how .cuts) (how .between) (how .folded)
+    w ▹ beforeOpening room (how .six) (how .cuts) (how .between) (how .folded)
     ▹ append room v
     ▹ afterOpening room o (how .inlined) (how .«is_case») (how .level)

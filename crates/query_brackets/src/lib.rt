@@ -21,10 +21,9 @@ use text::trim_all_spaces_end;
 use text::trim_spaces_end;
 use words::append_cased;
 
-// What an opening bracket does to the text: refusals 6 and 7, the blanks before it, and what follows it.
+// What an opening bracket does to the text: refusal 6, the blanks before it, and what follows it.
 pub struct Opening {
     pub six: bool,
-    pub seven: bool,
     pub cuts: bool,
     pub between: bool,
     pub folded: bool,
@@ -76,11 +75,10 @@ fn fold_if(query: &mut [u8], t: Text, b: bool) -> Text
 
 fn before_opening(query: &mut [u8], t: Text, how: Opening) -> Text
     requires { ⌜ Held t (now query) ⌝ }
-    ensures { λ r. ⌜ Laid (length (now (query .entry))) (beforeOpening (length (now (query .entry))) (how .six) (how .seven) (how .cuts) (how .between) (how .folded) (textOf t (now (query .entry)))) r (now (query .exit)) ⌝ }
+    ensures { λ r. ⌜ Laid (length (now (query .entry))) (beforeOpening (length (now (query .entry))) (how .six) (how .cuts) (how .between) (how .folded) (textOf t (now (query .entry)))) r (now (query .exit)) ⌝ }
 {
     let deep = refuse_if(query, t, how.six, 6);
-    let judged = refuse_if(query, deep, how.seven, 7);
-    let cut = trim_if(query, judged, how.cuts);
+    let cut = trim_if(query, deep, how.cuts);
     let apart = one_blank_if(query, cut, how.between);
     fold_if(query, apart, how.folded)
 }

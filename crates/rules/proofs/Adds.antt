@@ -9,7 +9,7 @@ use lib.Dec.{eqb, leb}
 use lib.ListN.{length, take, drop, take-append-drop}
 use Rattle.rules.specs.declared.SpanInfo.{SpanInfo}
 use Rattle.rules.specs.declared.BlockInfo.{BlockInfo}
-use Rattle.rules.specs.Base.{if_then_else_, choose, when}
+use Rattle.rules.specs.Base.{if_then_else_, choose, when, full}
 use Rattle.rules.specs.Tokens.{Token, Here}
 use Rattle.rules.specs.Sheet.{Env}
 use Rattle.rules.specs.declared.Inline.{Inline}
@@ -269,12 +269,15 @@ unfolding formatNewlineReservedWord
 newline e h =
     chosen _ _ _ (indentsInlined _ then maybe _ _ trims then lines e) (blanked e) then word e (h .token) quietly blank e quietly indents _
 
-pub opening : (e : Env) (h : Here) (info : BlockInfo) {s : State} → Adds s (formatOpeningParentheses e h info s) (strip (formatReservedWord e (h .token .value)))
+-- an opening bracket, after its check for 6
+pub opened : (e : Env) (h : Here) (info : BlockInfo) (s : State) → Adds (refuseIf (full (s .indentation .indentTypes)) 6 (onBlockLevel suc s)) (formatOpeningParentheses e h info s) (strip (formatReservedWord e (h .token .value)))
 unfolding formatOpeningParentheses
-opening e h info =
-    levels suc then refuses _ 6 (omega arith, omega arith) then refuses _ 7 (omega arith, omega arith) then inlines _
-    then maybe _ _ trims then maybe _ _ (blanked e) then maybe _ _ (trimsAll then blank e)
+opened e h info s =
+    inlines _ then maybe _ _ trims then maybe _ _ (blanked e) then maybe _ _ (trimsAll then blank e)
     then indents _ then pushes e _ quietly chosen _ _ _ (lines e) (maybe _ _ (blank e))
+
+pub opening : (e : Env) (h : Here) (info : BlockInfo) {s : State} → Adds s (formatOpeningParentheses e h info s) (strip (formatReservedWord e (h .token .value)))
+opening e h info {s} = levels suc then refuses _ 6 (omega arith, omega arith) then opened e h info s
 
 pub closing : (e : Env) (h : Here) {s : State} → Adds s (formatClosingParentheses e h s) (strip (formatReservedWord e (h .token .value)))
 unfolding formatClosingParentheses

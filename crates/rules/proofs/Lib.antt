@@ -11,6 +11,8 @@ pub mod Rows
 pub mod TokenGrowth
 pub mod Enough
 pub mod Short
+pub mod Inner
+pub mod Nested
 pub mod Call
 pub mod Sourced
 pub mod Listed

@@ -151,7 +151,7 @@ module _ (e : Env) where
     opening info =
         let l = length-word e v in
         covered v (omega arith)
-        (levels suc then refuses _ 6 (omega arith) then refuses _ 7 (omega arith) then inlines _
+        (levels suc then refuses _ 6 (omega arith) then inlines _
         then maybe _ _ trims then maybe _ _ (blanked e) then maybe _ _ (trimsAll then blank e)
         then opens _ then pushes e (formatReservedWord e v) {n = length v} (omega arith) then chosen _ _ _ (lines e) (maybe _ _ (blank e)))
 

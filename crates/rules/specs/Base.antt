@@ -73,6 +73,6 @@ abbrev pub isSome : Limit → Bool
 isSome limit.None = false
 isSome (limit.Some n) = true
 
--- the indent stack and the inline blocks hold 128 entries each
+-- the indent stack holds 128 entries
 unfoldable pub full {ℓ} : {A : Type ℓ} → List A → Bool
 full l = leb 128 (length l)

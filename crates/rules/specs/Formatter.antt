@@ -175,8 +175,7 @@ formatOpeningParentheses e h info s =
     let folded = not inlined && (isSome (e .options .«max_inline_top_level») && (holds (kindIs kind.ReservedTopLevel) (previousNonWhitespaceToken h) && holds foldsIn (previousTopLevelReserved (s .indentation)))) in
     s ▹ onBlockLevel suc
     ▹ refuseIf (full (s .indentation .indentTypes)) 6
-    ▹ refuseIf (inlined && full (s .inlineBlock)) 7
-    ▹ onInlineBlock (beginIfPossible inlined (info .length))
+    ▹ onInlineBlock (beginIfPossible (inlined && not (full (s .indentation .indentTypes))) (info .length))
     ▹ when (cutsBefore h) trimSpacesEnd
     ▹ when (blankBetween h) (oneBlank e)
     ▹ when folded (λ r. r ▹ trimAllSpacesEnd ▹ push e 32)

@@ -13,7 +13,7 @@ use Rattle.rules.specs.declared.Start.the-variants as start
 use Rattle.rules.specs.declared.BlockInfo.{BlockInfo}
 use Rattle.rules.specs.declared.FormatOptions.{FormatOptions}
 use Rattle.rules.specs.Bytes.{bytes}
-use Rattle.rules.specs.Base.{if_then_else_, same, orZero, full}
+use Rattle.rules.specs.Base.{if_then_else_, same, orZero}
 use Rattle.rules.specs.Tokens.{Token}
 
 -- ---- build_info
@@ -150,6 +150,6 @@ curLen l = getD l 0 0
 unfoldable pub beginsInline : FormatOptions → BlockInfo → List ℕ → Bool
 beginsInline op b l = isActive l || isInlineBlock op b
 
--- a block that begins inline, where there is room for it
+-- a block that begins inline; none does where refusal 6 is given, and then no stack moves
 unfoldable pub beginIfPossible : Bool → ℕ → List ℕ → List ℕ
-beginIfPossible inlined len l = if inlined && not (full l) then len ∷ l else l
+beginIfPossible begins len l = if begins then len ∷ l else l

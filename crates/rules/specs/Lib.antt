@@ -27,3 +27,4 @@ pub mod Compacting
 pub mod Rooms
 pub mod Due
 pub mod Shown
+pub mod Nested

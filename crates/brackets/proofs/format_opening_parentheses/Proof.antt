@@ -3,7 +3,7 @@ use Rattle.brackets.proofs.format_opening_parentheses.Statement.{statem
 use Rattle.brackets.proofs.format_opening_parentheses.Tie as tie
 use denote.Ref.{now}
 use native.Mathlib.Omega.{arith}
-use Rattle.brackets.proofs.OpeningLaws.{by-opening}
+use Rattle.brackets.proofs.OpeningLaws.{by-opening, by-room}
 
 begins-inline-requires : tie.Need-begins-inline-requires
 begins-inline-requires c κs = search needs
@@ -20,17 +20,24 @@ indent-level-requires c κs = search needs
 opening-at-requires : tie.Need-opening-at-requires
 opening-at-requires c κs = search needs
 
+both-requires : tie.Need-both-requires
+both-requires c κs = search needs
+
 push-opening-requires : tie.Need-push-opening-requires
 push-opening-requires c κs =
-    let ready = c .before .before .before .before .before .before .before .before .before .before .before .before .pre in
-    (ready .steady .held, (ready .known, ready .here, rw (c .before .before .opening-at .ensures) (c .before .before .before .indent-level .ensures .1)))
+    let ready = c .before .before .before .before .before .before .before .before .before .before .before .before .before .before .pre .0 in
+    (ready .steady .held, (ready .known, ready .here, rw (c .before .before .before .before .opening-at .ensures) (c .before .before .before .before .before .indent-level .ensures .1)))
 
 begin-if-possible-requires : tie.Need-begin-if-possible-requires
-begin-if-possible-requires c κs = c .before .before .before .before .before .before .before .before .before .before .before .before .before .before .before .pre .steady .inlined
+begin-if-possible-requires c κs =
+    let start = c .before .before .before .before .before .before .before .before .before .before .before .before .before .before .before .before .before in (
+      start .pre .0 .steady .inlined,
+      by-room (now (start .args .sheet)) (start .args .x) (start .args .i) (start .args .s) _ (start .pre .0) (c .before .before .before .before .before .before .before .before .before .before .before .begins-inline .result) _ _ _ _ (start .pre .1) (c .before .before .before .before .before .before .before .opening-at .ensures) (c .before .before .before .before .before .both .ensures),
+    )
 
-add-t20 : tie.Need-add-t20
-add-t20 c =
-    let ready = c .before .before .before .before .before .before .before .before .before .before .before .before .before .before .before .before .before .pre in
+add-t22 : tie.Need-add-t22
+add-t22 c =
+    let ready = c .before .before .before .before .before .before .before .before .before .before .before .before .before .before .before .before .before .before .before .pre .0 in
     omega (arith, ready .steady .level, ready .here, ready .known .sheeted .few .tokens)
 
 same-length : tie.Need-same-length
@@ -38,11 +45,11 @@ same-length c = search needs
 
 returns : tie.Need-returns
 returns c =
-    let start = c .before .before .before .before .before .before .before .before .before .before .before .before .before .before .before .before .before in
-    let at-level = c .before .before .before .before .before .before .before .before in
-    by-opening (now (start .args .sheet)) (start .args .x) (start .args .i) (start .args .s) _ (start .pre) _ _ _ _ _ _ _ _ _
+    let start = c .before .before .before .before .before .before .before .before .before .before .before .before .before .before .before .before .before .before .before in
+    let at-level = c .before .before .before .before .before .before .before .before .before .before in
+    by-opening (now (start .args .sheet)) (start .args .x) (start .args .i) (start .args .s) _ (start .pre .0) _ _ _ _ _ _ _ _ _ _
     (at-level .before .before .before .begins-inline .ensures) (at-level .before .before .is-folded .ensures) (at-level .before .increase-block-level .ensures) (at-level .indent-level .ensures .0)
-    (c .before .before .before .before .before .before .before .opening-at .ensures) (c .before .before .before .before .push-opening .ensures) (c .before .begin-if-possible .ensures)
+    (c .before .before .before .before .before .before .before .before .before .opening-at .ensures) (c .before .before .before .before .before .before .before .both .ensures) (c .before .before .before .before .push-opening .ensures) (c .before .begin-if-possible .ensures)
 
 pub format-opening-parentheses-spec : {M : Type 1} → statement M
 format-opening-parentheses-spec =
@@ -53,8 +60,9 @@ format-opening-parentheses-spec =
     increase-block-level-requires
     indent-level-requires
     opening-at-requires
+    both-requires
     push-opening-requires
     begin-if-possible-requires
-    add-t20
+    add-t22
     same-length
     returns)

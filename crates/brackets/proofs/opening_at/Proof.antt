@@ -11,9 +11,6 @@ value-of-requires c κs = search needs
 is-full-requires : tie.Need-is-full-requires
 is-full-requires c κs = search needs
 
-is-over-requires : tie.Need-is-over-requires
-is-over-requires c κs = search needs
-
 cuts-before-requires : tie.Need-cuts-before-requires
 cuts-before-requires c κs = search (needs, known-readable)
 
@@ -35,7 +32,6 @@ opening-at-spec =
     (tie.spec
     value-of-requires
     is-full-requires
-    is-over-requires
     cuts-before-requires
     blank-between-requires
     slice-aggregate-is-lower

@@ -13,7 +13,7 @@ use Rattle.state.proofs.Laws.{value-inside}
 use Rattle.fmt_switch.specs.Of.{switchOf}
 use Rattle.around.specs.Run.{turnAt}
 use Rattle.formatter.specs.Run.{kindIn, Stepped}
-use Rattle.formatter.proofs.Laws.{turn-is, head-is, by-step, Running, run-starts, run-ready, run-goes, run-refused, run-zeros, run-reports, run-fills, run-short}
+use Rattle.formatter.proofs.Laws.{turn-is, head-is, by-step, Running, run-starts, run-ready, run-under, run-goes, run-refused, run-zeros, run-reports, run-fills, run-short}
 use Rattle.rules.specs.declared.TokenKind.the-variants as kind
 use Rattle.rules.specs.Rows.{laysOut}
 use Rattle.text.specs.Held.{marked}
@@ -139,7 +139,11 @@ block-info-requires c κs =
     ((start .pre .0, c .before .before .before .before .before .before .before .before .before .before .loop-test .taken), (sym (c .before .before .before .before .before .before .before .kind-at .ensures) ∙ c .enum-told6 .given .1, start .pre .1 .1))
 
 format-opening-parentheses-requires : tie.Need-format-opening-parentheses-requires Inv-loop μ-loop
-format-opening-parentheses-requires c κs = run-ready _ _ _ _ _ _ _ _ (c .before .before .before .before .before .before .before .before .before .before .before .before .before .before .before .before .before .before .before .before .before .before .before .before .before .before .before .before .pre .0) (c .before .before .before .before .before .before .before .before .before .before .before .before .loop-test .taken) (c .before .before .before .before .before .before .before .before .before .before .before .before .before .loop .inv .1) (c .before .before .before .before .before .before .before .before .before .before .mark .ensures)
+format-opening-parentheses-requires c κs =
+    let run = c .before .before .before .before .before .before .before .before .before .before .before .before .before .loop .inv .1 in (
+      run-ready _ _ _ _ _ _ _ _ (c .before .before .before .before .before .before .before .before .before .before .before .before .before .before .before .before .before .before .before .before .before .before .before .before .before .before .before .before .pre .0) (c .before .before .before .before .before .before .before .before .before .before .before .before .loop-test .taken) run (c .before .before .before .before .before .before .before .before .before .before .mark .ensures),
+      run-under _ _ _ _ _ _ _ run,
+    )
 
 enum-told-7 : tie.Need-enum-told-7 Inv-loop μ-loop
 enum-told-7 c = search needs

@@ -7,9 +7,6 @@ use Rattle.query_brackets.proofs.before_opening.Tie as tie
 refuse-if-requires : tie.Need-refuse-if-requires
 refuse-if-requires c κs = search needs
 
-refuse-if-requires-2 : tie.Need-refuse-if-requires-2
-refuse-if-requires-2 c κs = search needs
-
 trim-if-requires : tie.Need-trim-if-requires
 trim-if-requires c κs = search needs
 
@@ -28,18 +25,16 @@ returns c =
     let fifth = c .before .before in
     let fourth = fifth .before .before .before .before in
     let third = fourth .before .before .before .before in
-    let second = third .before .before .before .before in
-    let first = second .before .before .before .before in
+    let first = third .before .before .before .before in
     then-when-in _ fold (fifth .fold-if .ensures)
     (then-when-in _ oneBlank (fourth .one-blank-if .ensures)
-    (then-when _ _ (third .trim-if .ensures) (then-when _ _ (second .refuse-if2 .ensures) (first .refuse-if .ensures))))
+    (then-when _ _ (third .trim-if .ensures) (first .refuse-if .ensures)))
 
 pub before-opening-spec : {M : Type 1} → statement M
 before-opening-spec =
     tie.close
     (tie.spec
     refuse-if-requires
-    refuse-if-requires-2
     trim-if-requires
     one-blank-if-requires
     fold-if-requires

@@ -3,9 +3,6 @@ use borrow.Author.Needs.{needs}
 use Rattle.inline_block.proofs.InlineBlock.begin_if_possible.Statement.{statement}
 use Rattle.inline_block.proofs.InlineBlock.begin_if_possible.Tie as tie
 
-both-requires : tie.Need-both-requires
-both-requires c κs = search needs
-
 within-requires : tie.Need-within-requires
 within-requires c κs = search needs
 
@@ -34,7 +31,6 @@ pub begin-if-possible-spec : {M : Type 1} → statement M
 begin-if-possible-spec =
     tie.close
     (tie.spec
-    both-requires
     within-requires
     mul-old
     array-read-old
