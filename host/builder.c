@@ -146,9 +146,11 @@ static int has_sound_head(struct work *w)
         || !has_sound_list(w, SHEET_IN_PARAMS, p->params, p->param_count, TWIGMANTLE_MOST_PARAMS)
         || !has_sound_list(w, SHEET_IN_KEEPS, p->keeps, p->keep_count, TWIGMANTLE_MOST_KEEPS))
         return 0;
-    for (size_t i = 0; i < sizeof words / sizeof words[0]; i++)
-        if (words[i][0] > words[i][1])
+    for (size_t i = 0; i < sizeof words / sizeof words[0]; i++) {
+        int withdrawn = TWIGMANTLE_HEAD_MODE + i == TWIGMANTLE_HEAD_INLINE && words[i][0] == TWIGMANTLE_INLINE_ON;
+        if (words[i][0] > words[i][1] || withdrawn)
             return fails(w, SHEET_OPTION, SHEET_IN_HEAD, TWIGMANTLE_HEAD_MODE + i);
+    }
     if (p->mode == TWIGMANTLE_MODE_NONE && p->param_count > 0)
         return fails(w, SHEET_OPTION, SHEET_IN_HEAD, TWIGMANTLE_HEAD_MODE);
     w->base = tokens_end(p) + TWIGMANTLE_SIZE_PARAM * p->param_count + TWIGMANTLE_SIZE_KEEP * p->keep_count;

@@ -1,6 +1,6 @@
 /* Builds a sheet into a caller's buffer. This pair and twigmantle.h are what a host copies.
  *
- * What it builds is never refused with 1 to 4. Nothing is allocated, nothing kept between calls, nothing written outside the buffer. Equal values share one
+ * What it builds is never refused with 1 to 4 or 14. Nothing is allocated, nothing kept between calls, nothing written outside the buffer. Equal values share one
  * place in the bodies. A buffer of TWIGMANTLE_MOST_SHEET bytes is never too short. */
 #ifndef BUILDER_H
 #define BUILDER_H
@@ -20,7 +20,7 @@ struct sheet_bytes {
 struct sheet_options {
     uint32_t indent;      /* so many spaces, or TWIGMANTLE_INDENT_TABS */
     uint32_t letter_case; /* enum twigmantle_case */
-    uint32_t one_line;    /* enum twigmantle_inline */
+    uint32_t one_line;    /* enum twigmantle_inline, but not TWIGMANTLE_INLINE_ON, which is withdrawn */
     uint32_t lines;       /* between queries */
     uint32_t block;
     uint32_t arguments; /* or TWIGMANTLE_LIMIT_NONE */
@@ -57,7 +57,7 @@ enum sheet_fault {
     SHEET_BUILT = 0,
     SHEET_NULL,   /* a null pointer with a length or a count that is not 0 */
     SHEET_COUNT,  /* more tokens, parameters or keep words than a sheet has */
-    SHEET_OPTION, /* an option or the mode out of its range, or parameters in mode None; index is the word of the head */
+    SHEET_OPTION, /* an option or the mode out of its range, TWIGMANTLE_INLINE_ON, or parameters in mode None; index is the word of the head */
     SHEET_KIND,   /* a kind that there is not */
     SHEET_KEY,    /* a key class that there is not, or a name or a number that the class does not have */
     SHEET_NAME,   /* a parameter's name, and the mode is not Named */

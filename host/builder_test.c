@@ -48,7 +48,7 @@ static void make(void)
 {
     int full = one_in(200);
     plan = (struct sheet_plan){.mode = full ? 1 + under(2) : under(3), .tokens = tokens, .params = params, .keeps = keeps};
-    plan.options = (struct sheet_options){under(257), under(3), under(3), under(256), under(90), one_in(2) ? TWIGMANTLE_LIMIT_NONE : under(90), under(90)};
+    plan.options = (struct sheet_options){under(257), under(3), one_in(2) ? TWIGMANTLE_INLINE_OFF : TWIGMANTLE_INLINE_COMMENTS, under(256), under(90), one_in(2) ? TWIGMANTLE_LIMIT_NONE : under(90), under(90)};
     plan.token_count = full ? TWIGMANTLE_MOST_TOKENS : under(30);
     plan.param_count = full ? TWIGMANTLE_MOST_PARAMS : plan.mode ? under(9) : 0;
     plan.keep_count = full ? TWIGMANTLE_MOST_KEEPS : under(5);
@@ -142,11 +142,11 @@ static void sound(void)
     size_t n = build(TWIGMANTLE_MOST_SHEET).length;
     if (n == 0)
         wrong("a sound plan was not built");
-    if (first_offence(sheet, n).refusal != 0)
-        wrong("what was built would be refused with 1 to 4");
+    if (layout_offence(sheet, n).refusal != 0)
+        wrong("what was built would be refused with 1 to 4 or 14");
     struct twigmantle_report r = twigmantle_layout(sheet, n, text, sizeof text);
-    if (r.refusal >= 1 && r.refusal <= 4)
-        wrong("the call refuses what was built with 1 to 4");
+    if ((r.refusal >= 1 && r.refusal <= 4) || r.refusal == TWIGMANTLE_REFUSAL_WITHDRAWN)
+        wrong("the call refuses what was built with 1 to 4 or 14");
     if (r.refusal == 0 && !is_due(sheet, text, (size_t)r.length, NULL))
         wrong("the call lays out what was built as something else");
     texts += r.refusal == 0;
@@ -175,6 +175,10 @@ static void spoilt_head(void)
     uint32_t *const words[] = {&o->indent, &o->letter_case, &o->one_line, &o->lines}, over[] = {257, 3, 3, 256}, i = under(4);
     *words[i] = one_in(2) ? over[i] : over[i] + under(0xffffff00u);
     refuses(SHEET_OPTION, SHEET_IN_HEAD, TWIGMANTLE_HEAD_INDENT + i);
+    *o = was;
+    o->one_line = TWIGMANTLE_INLINE_ON;
+    o->lines = one_in(2) ? was.lines : 256;
+    refuses(SHEET_OPTION, SHEET_IN_HEAD, TWIGMANTLE_HEAD_INLINE);
     *o = was;
     plan.mode = plan.param_count > 0 && one_in(2) ? 0 : 3 + under(9);
     refuses(SHEET_OPTION, SHEET_IN_HEAD, TWIGMANTLE_HEAD_MODE);

@@ -1,4 +1,5 @@
-/* Hard use of the calls: sheets whose answer is known; random and damaged sheets, sheets of every length, buffers and lists of every length around the need.
+/* Hard use of the calls: sheets whose answer is known; random and damaged sheets, sheets of every length, buffers and lists of every length around the need; and what is
+ * refused with 14, again once it is converted.
  *
  *     hard [N [SEED]]        N random sheets (20,000) from a seed (1)
  *
@@ -23,7 +24,7 @@ static uint8_t made[LONGEST + LONGER], text_now[MOST_ROOM], text_first[MOST_ROOM
 static size_t length, room_now, words_now; /* of the made sheet, of the buffer and of the list */
 static enum where where_now;
 static const char *stage = "the default head";
-static uint64_t turn, calls, too_short, short_lists, short_tables, counts[10];
+static uint64_t turn, calls, too_short, short_lists, short_tables, converted, counts[TWIGMANTLE_REFUSAL_WITHDRAWN + 1];
 
 /* A line put together without stdio, for it may be said in the middle of a call. */
 static char line[512];
@@ -98,12 +99,12 @@ static void caught(int number, siginfo_t *info, void *context)
 /* The numbers go together, the text is what is due, and zero follows it. Lines and width are counted again, so that every byte of the text is read. */
 static const char *fault(struct twigmantle_report r, const uint8_t *text, size_t room)
 {
-    struct offence offence = first_offence(made, length);
+    struct offence offence = layout_offence(made, length);
     uint64_t lines = r.length > 0, width = 0, column = 0;
-    if (r.refusal > 9 || r.length > room)
+    if ((r.refusal > TWIGMANTLE_REFUSAL_ROOM && r.refusal != TWIGMANTLE_REFUSAL_WITHDRAWN) || r.length > room)
         return "a number out of range";
-    if (offence.refusal != 0 ? r.refusal != offence.refusal || r.place != offence.place : r.refusal > 0 && r.refusal < 5)
-        return "another answer of checks 1 to 4";
+    if (offence.refusal != 0 ? r.refusal != offence.refusal || r.place != offence.place : (r.refusal > 0 && r.refusal < 5) || r.refusal == TWIGMANTLE_REFUSAL_WITHDRAWN)
+        return "another answer of checks 1 to 4 and 14";
     if (offence.refusal == 0 && r.refusal != 0 && !can_be_refused(made, r.refusal, r.place, room))
         return "a refusal that this token cannot have";
     for (size_t i = 0; i < r.length; i++) {
@@ -155,10 +156,10 @@ static int is_zero(const uint8_t *at, size_t n)
     return n == 0;
 }
 
-/* The words that the list must have: 10 is given after refusals 1 to 4. */
+/* The words that the list must have: 10 is given after refusals 1 to 4 and 14. */
 static size_t words_needed(void)
 {
-    return first_offence(made, length).refusal == 0 ? words_for(made) : 0;
+    return layout_offence(made, length).refusal == 0 ? words_for(made) : 0;
 }
 
 /* What is wrong with the second call's answer: it is the first call's, whose text is in `text_now`; or 10, which leaves everything zero. */
@@ -206,7 +207,7 @@ static void lay_rows(size_t room, size_t words, struct twigmantle_report first)
 static const char *once_fault(struct twigmantle_report r, struct twigmantle_report plain, const uint8_t *text, const uint32_t *table, size_t words)
 {
     static const struct twigmantle_report refusal_12 = {.refusal = TWIGMANTLE_REFUSAL_TABLE};
-    int sound = first_offence(made, length).refusal == 0, narrow = sound && words < TWIGMANTLE_TABLE_WORDS * (size_t)word_at(made, 0);
+    int sound = layout_offence(made, length).refusal == 0, narrow = sound && words < TWIGMANTLE_TABLE_WORDS * (size_t)word_at(made, 0);
     if (!same_report(r, narrow ? refusal_12 : plain))
         return narrow ? "a table that is too short, and not refused with 12 at 0" : "not the plain call's report";
     if (!is_zero((const uint8_t *)table, sizeof *table * words))
@@ -326,11 +327,21 @@ static struct twigmantle_report lay(size_t room)
     return r;
 }
 
+/* Builds the plan, with TWIGMANTLE_INLINE_ON too, which was stored once and is not built any more. */
+static size_t store(struct sheet_plan plan)
+{
+    uint32_t one_line = plan.options.one_line;
+    plan.options.one_line = one_line == TWIGMANTLE_INLINE_ON ? TWIGMANTLE_INLINE_COMMENTS : one_line;
+    size_t n = sheet_build(&plan, made, sizeof made).length;
+    put(made, 4 * TWIGMANTLE_HEAD_INLINE, one_line);
+    return n;
+}
+
 /* A sheet of known.h, in each way of lending. */
 static void expected(const char *name, const struct sheet_plan *plan, size_t room, struct wanted wanted)
 {
     stage = name;
-    length = sheet_build(plan, made, sizeof made).length;
+    length = store(*plan);
     for (int way = 0; way < WAYS; way++) {
         struct twigmantle_report r = lay(room);
         if (r.refusal != wanted.refusal || r.place != wanted.place)
@@ -376,7 +387,7 @@ static uint64_t at_room(size_t room, size_t need, struct twigmantle_report ample
     return room < need ? r.place : UINT64_MAX;
 }
 
-/* The call that says how much to lend: the judge's sum, no less than the need, and the layout's refusals 1 to 4. */
+/* The call that says how much to lend: the judge's sum, no less than the need, and the layout's refusals 1 to 4 and 14. */
 static void room_is_known(struct twigmantle_report ample, size_t need)
 {
     enum where where = calls++ % WAYS;
@@ -384,7 +395,7 @@ static void room_is_known(struct twigmantle_report ample, size_t need)
     where_now = where;
     struct twigmantle_outcome known = twigmantle_room(sheet, length);
     give_back(sheet, where);
-    if (ample.refusal > 0 && ample.refusal <= TWIGMANTLE_REFUSAL_BYTE) {
+    if (layout_offence(made, length).refusal != 0) {
         if (known.refusal != ample.refusal || known.place != ample.place || known.length != 0)
             wrong("the room of a refused sheet");
     } else if (known.refusal != 0 || known.place != 0 || known.length != enough(made) || (ample.refusal != TWIGMANTLE_REFUSAL_ROOM && known.length < need))
@@ -415,6 +426,27 @@ static void rooms(void)
         for (size_t i = 0; i < sizeof some / sizeof some[0]; i++)
             at_room(some[i] < MOST_ROOM ? some[i] : MOST_ROOM, need, ample);
     }
+}
+
+/* The call that converts: refusals 1 to 4 leave the sheet, 1 becomes 2 in byte 28 alone, and nothing else is changed. The sheet that is lent can be written. */
+static void convert(void)
+{
+    struct offence offence = first_offence(made, length);
+    int is_one = offence.refusal == 0 && word_at(made, 4 * TWIGMANTLE_HEAD_INLINE) == TWIGMANTLE_INLINE_ON;
+    enum where where = calls++ % WAYS;
+    uint8_t *sheet = lend(&texts, length, where);
+    if (length > 0)
+        memcpy(sheet, made, length);
+    where_now = where;
+    struct twigmantle_outcome o = twigmantle_convert(sheet, length);
+    if (o.refusal != offence.refusal || o.place != offence.place || o.length != (uint64_t)is_one)
+        wrong("converted, another number, place or length");
+    if (is_one)
+        put(made, 4 * TWIGMANTLE_HEAD_INLINE, TWIGMANTLE_INLINE_COMMENTS);
+    if (length > 0 && memcmp(sheet, made, length) != 0)
+        wrong("converted, another sheet");
+    converted += (uint64_t)is_one;
+    give_back(sheet, where);
 }
 
 /* Every length from 0 to past the sheet's own: judge.h refuses all but that one by their size. */
@@ -498,6 +530,8 @@ static void nulls(void)
     stage = "null pointers with length 0";
     room_now = length = 0;
     struct twigmantle_report none = twigmantle_layout(NULL, 0, NULL, 0), sheet = twigmantle_layout(NULL, 0, text, 3), room = twigmantle_layout(head, 48, NULL, 0);
+    if (twigmantle_convert(NULL, 0).refusal != 1)
+        wrong("no bytes to convert, and not refused with 1");
     if (none.refusal != 1 || sheet.refusal != 1 || text[0] + text[1] + text[2] != 0 || room.refusal != 0 || twigmantle_default_head(NULL, 0) + twigmantle_rust_head(NULL, 0) != 0)
         wrong("another answer than for no bytes");
 #ifndef HARD_WITHOUT_ROWS
@@ -523,10 +557,10 @@ static void watch(void)
         sigaction(numbers[i], &action, NULL);
 }
 
-/* A run of many sheets must meet texts, and every refusal that a sheet can reach. 7 is not known to be one. */
+/* A run of many sheets must meet texts, and every refusal that a sheet can reach: no sheet reaches 7. */
 static int meets_all(uint64_t turns)
 {
-    int all = counts[0] > 0 && (too_short > 0 || turns < MANY);
+    int all = counts[0] > 0 && ((too_short > 0 && converted > 0) || turns < MANY);
     for (int i = 1; i < 9; i++)
         all &= counts[i] > 0 || i == 7 || turns < MANY;
     if (!all)
@@ -558,12 +592,17 @@ int main(int argc, char **argv)
         if (one_in(3))
             damage();
         rooms();
+        int was_one = layout_offence(made, length).refusal == TWIGMANTLE_REFUSAL_WITHDRAWN;
+        convert();
+        if (was_one)
+            rooms();
         if ((turn + 1) % (turns < 10 ? 1 : turns / 10) == 0)
             fprintf(stderr, "%" PRIu64 " of %" PRIu64 " sheets\n", turn + 1, turns);
     }
     printf("%" PRIu64 " sheets, %" PRIu64 " calls, no fault\nat an ample buffer %" PRIu64 " texts, refusals 1 to 9:", turns, calls, counts[0]);
     for (int i = 1; i < 10; i++)
         printf(" %" PRIu64, counts[i]);
+    printf("; 14: %" PRIu64 ", each laid out once it was converted", counts[TWIGMANTLE_REFUSAL_WITHDRAWN]);
     printf("\n%" PRIu64 " further buffers, %" PRIu64 " lists and %" PRIu64 " tables too short\n", too_short, short_lists, short_tables);
     return meets_all(turns) ? 0 : 1;
 }

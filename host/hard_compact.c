@@ -3,7 +3,8 @@
  *     hard_compact [N [SEED]]        N random sheets (20,000) from a seed (1)
  *
  * The new sheet is worked out here in the wish's own words, a byte at a time, and every byte of the call's is held to it. The sheet and the buffer lie at the fences of
- * fence.h, in turn in each way that it has. The first wrong thing is said, and the program ends with 1. */
+ * fence.h, in turn in each way that it has. The new sheet, converted, is what the call makes of the converted sheet. The first wrong thing is said, and the program ends
+ * with 1. */
 #define _GNU_SOURCE
 #include <inttypes.h>
 #include <stdio.h>
@@ -17,7 +18,7 @@ enum { MORE = 64 };
 static struct pages sheets, outs;
 static uint8_t made[TWIGMANTLE_MOST_SHEET + MORE], wanted[TWIGMANTLE_MOST_SHEET];
 static size_t length, wanted_length;
-static uint64_t turn, calls, counts[12];
+static uint64_t turn, calls, converted, counts[12];
 
 static void wrong(const char *what, size_t room)
 {
@@ -96,6 +97,19 @@ static void call(size_t room, struct offence offence)
     give_back(out, where);
 }
 
+/* Compacting and converting commute: a sheet that passes refusals 1 to 4, and the new one in `wanted`. */
+static void commutes(void)
+{
+    static uint8_t out[TWIGMANTLE_MOST_SHEET];
+    uint64_t changed = twigmantle_convert(made, length).length;
+    if (twigmantle_convert(wanted, wanted_length).length != changed)
+        wrong("converted before and after, another number of bytes", sizeof out);
+    struct twigmantle_outcome o = twigmantle_compact(made, length, out, sizeof out);
+    if (o.refusal != 0 || o.length != wanted_length || memcmp(out, wanted, wanted_length) != 0)
+        wrong("converted and then compacted, another sheet", sizeof out);
+    converted += changed;
+}
+
 /* A place moved to new text at the end of the bodies, or into the text that is there. */
 static void edit(void)
 {
@@ -138,10 +152,12 @@ int main(int argc, char **argv)
         size_t need = wanted_length, rooms[] = {0, need - (need > 0), need, need + 1, under((uint32_t)need + 60), length};
         for (size_t i = 0; i < sizeof rooms / sizeof rooms[0]; i++)
             call(rooms[i] <= TWIGMANTLE_MOST_SHEET + MORE ? rooms[i] : 0, offence);
+        if (offence.refusal == 0)
+            commutes();
     }
     if (twigmantle_compact(NULL, 0, NULL, 0).refusal != 1)
         wrong("no bytes, and not refused with 1", 0);
-    printf("%" PRIu64 " sheets, %" PRIu64 " calls, no fault\n%" PRIu64 " new sheets, refusals 1 to 4: %" PRIu64 " %" PRIu64 " %" PRIu64 " %" PRIu64 ", 11: %" PRIu64 "\n", turns,
-           calls, counts[0], counts[1], counts[2], counts[3], counts[4], counts[11]);
-    return counts[0] > 0 && counts[11] > 0 ? 0 : 1;
+    printf("%" PRIu64 " sheets, %" PRIu64 " calls, no fault\n%" PRIu64 " new sheets, refusals 1 to 4: %" PRIu64 " %" PRIu64 " %" PRIu64 " %" PRIu64 ", 11: %" PRIu64 "; %" PRIu64 " converted\n", turns,
+           calls, counts[0], counts[1], counts[2], counts[3], counts[4], counts[11], converted);
+    return counts[0] > 0 && counts[11] > 0 && converted > 0 ? 0 : 1;
 }

@@ -1,4 +1,4 @@
-/* What an answer must be, as far as a small program can say: refusals 1 to 4 and 10 exactly; for the others what the token must be; what a text holds without its
+/* What an answer must be, as far as a small program can say: refusals 1 to 4, 10 and 14 exactly; for the others what the token must be; what a text holds without its
  * white bytes; the rows, but for where a value stands that is all white; and a buffer that is long enough. By docs/sheet.md and by no code of the library. */
 #ifndef JUDGE_H
 #define JUDGE_H
@@ -114,6 +114,14 @@ static struct offence first_offence(const uint8_t *sheet, size_t n)
         if (sheet[at] > 127)
             return offence_at(4, at);
     return offence_at(0, 0);
+}
+
+/* The same for the layout calls and the room: 14, after 4, if word 7 is the one that is withdrawn. */
+static inline struct offence layout_offence(const uint8_t *sheet, size_t n)
+{
+    struct offence offence = first_offence(sheet, n);
+    int withdrawn = offence.refusal == 0 && word_at(sheet, 4 * TWIGMANTLE_HEAD_INLINE) == TWIGMANTLE_INLINE_ON;
+    return withdrawn ? offence_at(TWIGMANTLE_REFUSAL_WITHDRAWN, 4 * TWIGMANTLE_HEAD_INLINE) : offence;
 }
 
 static int equal(struct value v, struct value w)

@@ -1,4 +1,5 @@
-/* Sheets whose answer is known, each with a buffer: texts, and every refusal from 5 on that a sheet can reach. For hard.c. */
+/* Sheets whose answer is known, each with a buffer: texts, and every refusal from 5 on that a sheet can reach. For hard.c, which stores a plan with
+ * TWIGMANTLE_INLINE_ON though the builder does not build it. */
 #ifndef KNOWN_H
 #define KNOWN_H
 
@@ -62,8 +63,11 @@ static void known_queries(expect *expect)
     expect("a query, too little room", &plan, 25, REFUSAL(9, 6));
     plan.options.indent = TWIGMANTLE_INDENT_TABS;
     expect("a query with tabs", &plan, PLENTY, WIDE("SELECT\n\tid\nFROM\n\tcalls", 13));
-    plan.options.one_line = TWIGMANTLE_INLINE_ON;
+    plan.options.one_line = TWIGMANTLE_INLINE_COMMENTS;
     expect("a query on one line", &plan, PLENTY, TEXT("SELECT id FROM calls"));
+    plan.options.one_line = TWIGMANTLE_INLINE_ON;
+    expect("the same as it was stored once", &plan, PLENTY, REFUSAL(14, 28));
+    expect("the same, no room", &plan, 0, REFUSAL(14, 28));
     plan = of(LIST(notes));
     plan.options.top_level = 5;
     expect("a query, 5 at the top level", &plan, PLENTY, TEXT("SELECT id\nFROM\n  calls"));
@@ -120,7 +124,7 @@ static void known_words(expect *expect)
     expect("comments", &plan, PLENTY, TEXT("a -- note\nb\n/* x\n y */\nc"));
 }
 
-/* The three values of inline around a line comment. */
+/* The values of inline around a line comment; 1 is withdrawn. */
 static void known_comments(expect *expect)
 {
     static const struct sheet_token typed[] = {TOKEN(WORD, "a"), TOKEN(LINE_COMMENT, "-- c"), TOKEN(TYPE_SPECIFIER, "::t")};
@@ -130,18 +134,16 @@ static void known_comments(expect *expect)
     static const struct sheet_token two[] = {TOKEN(WORD, "a"), TOKEN(OPERATOR, ","), TOKEN(LINE_COMMENT, "-- c"), TOKEN(LINE_COMMENT, "-- d")};
     static const struct sheet_token folded[] = {TOKEN(LINE_COMMENT, "-- c"), TOKEN(RESERVED_TOP_LEVEL, ""), TOKEN(OPEN_PAREN, "("), TOKEN(WORD, "a"),
                                                 TOKEN(CLOSE_PAREN, ")")};
-    static const char *const texts[][3] = {{"a -- c::t", "a -- c::t", "a -- c\n::t"},   {"a -- c\nFROM\n  x", "a -- c FROM x", "a -- c\n FROM x"},
-                                           {"-- c", "-- c", "-- c"},                    {"a;::t", "a;::t", "a;\n::t"},
-                                           {"a,\n-- c  -- d", "a, -- c  -- d", "a, -- c\n  -- d"}, {"-- c (\n  a\n)", "-- c ( a )", "-- c\n ( a )"}};
+    static const char *const texts[][2] = {{"a -- c::t", "a -- c\n::t"}, {"a -- c\nFROM\n  x", "a -- c\n FROM x"},   {"-- c", "-- c"},
+                                           {"a;::t", "a;\n::t"},         {"a,\n-- c  -- d", "a, -- c\n  -- d"}, {"-- c (\n  a\n)", "-- c\n ( a )"}};
     struct sheet_plan plans[] = {of(LIST(typed)), of(LIST(from)), of(LIST(fed)), of(LIST(ended)), of(LIST(two)), of(LIST(folded))};
     plans[5].options.block = plans[5].options.top_level = 0;
     for (uint32_t i = 0; i < 18; i++) {
         plans[i % 6].options.one_line = i / 6;
-        expect("a line comment with inline 0, 1, 2", &plans[i % 6], PLENTY, TEXT(texts[i % 6][i / 6]));
+        expect("a line comment with inline 0, 1, 2", &plans[i % 6], PLENTY, i / 6 == TWIGMANTLE_INLINE_ON ? REFUSAL(14, 28) : TEXT(texts[i % 6][i / 12]));
     }
     expect("a line feed in the comment, inline 2", &plans[2], 5, TEXT("-- c"));
-    plans[2].options.one_line = TWIGMANTLE_INLINE_ON;
-    expect("a line feed in the comment, inline 1", &plans[2], 5, REFUSAL(9, 0));
+    expect("a line feed in the comment, inline 2, a byte less", &plans[2], 4, REFUSAL(9, 0));
 }
 
 static void known_placeholders(expect *expect)
@@ -167,6 +169,9 @@ static void known_placeholders(expect *expect)
     expect("numbers", &plan, PLENTY, ROWS("12 7", 0, 1, 0, 0, 2, 1, 0, 3, 0, 1));
     plan.token_count = 3;
     expect("a number from one that is 0", &plan, PLENTY, REFUSAL(5, 2));
+    plan.options.one_line = TWIGMANTLE_INLINE_ON;
+    expect("the same, and inline is withdrawn", &plan, PLENTY, REFUSAL(14, 28));
+    plan.options.one_line = TWIGMANTLE_INLINE_OFF;
     plan.mode = TWIGMANTLE_MODE_NONE;
     plan.param_count = 0;
     expect("the same with no parameters", &plan, PLENTY, TEXT("$2 ?0 $0"));

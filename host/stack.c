@@ -3,7 +3,8 @@
  *     stack [N [SEED]]       the sheets below, then N random ones (2,000) from a seed (1)
  *
  * Built with STACK_OF_ROWS defined it measures the second call, with a list that is never too short; with STACK_OF_ONCE the call that reads ahead once, with such a
- * table; with STACK_OF_COMPACT the one that compacts, with STACK_OF_ROOM the one that says how much to lend, with STACK_OF_MEND the one that mends.
+ * table; with STACK_OF_COMPACT the one that compacts, with STACK_OF_ROOM the one that says how much to lend, with STACK_OF_MEND the one that mends, with STACK_OF_CONVERT the
+ * one that converts.
  *
  * Counted from the caller's stack pointer at the call down to the lowest byte written: the return address, the library's frames, and those of memcpy and
  * memset. It is exact for the sheets that are run: the stack is painted twice, the second time with each bit turned, so that a written byte shows in one of the
@@ -34,13 +35,13 @@ static uint32_t lent[TWIGMANTLE_MOST_TABLE];
 #define LAYOUT twigmantle_layout_once
 #elif defined STACK_OF_COMPACT
 #define LAYOUT twigmantle_compact
-#elif defined STACK_OF_ROOM || defined STACK_OF_MEND
+#elif defined STACK_OF_ROOM || defined STACK_OF_MEND || defined STACK_OF_CONVERT
 #define LAYOUT without_text
 #else
 #define LAYOUT twigmantle_layout
 #endif
 
-#if defined STACK_OF_COMPACT || defined STACK_OF_ROOM || defined STACK_OF_MEND
+#if defined STACK_OF_COMPACT || defined STACK_OF_ROOM || defined STACK_OF_MEND || defined STACK_OF_CONVERT
 typedef struct twigmantle_outcome told;
 #else
 typedef struct twigmantle_report told;
@@ -61,6 +62,12 @@ static told without_text(const uint8_t *s, size_t n, uint8_t *t, size_t r)
 {
     (void)t, (void)r;
     return twigmantle_mend((uint8_t *)(uintptr_t)s, n, changes, TWIGMANTLE_MOST_REPORT);
+}
+#elif defined STACK_OF_CONVERT
+static told without_text(const uint8_t *s, size_t n, uint8_t *t, size_t r)
+{
+    (void)t, (void)r;
+    return twigmantle_convert((uint8_t *)(uintptr_t)s, n);
 }
 #endif
 
@@ -153,9 +160,11 @@ static void show(const char *what, uint32_t refusal)
 #if defined STACK_OF_COMPACT
     refusal = refusal <= 4 ? refusal : refusal == 9 ? TWIGMANTLE_REFUSAL_SHEET : 0;
 #elif defined STACK_OF_ROOM
-    refusal = refusal <= 4 ? refusal : 0;
+    refusal = refusal <= 4 || refusal == 14 ? refusal : 0;
 #elif defined STACK_OF_MEND
     refusal = refusal == 1 ? refusal : 0;
+#elif defined STACK_OF_CONVERT
+    refusal = refusal <= 4 ? refusal : 0;
 #endif
     if (report.refusal != refusal) {
         printf("refused %" PRIu32 " at %" PRIu64 ", wanted %" PRIu32 "\n", report.refusal, report.place, refusal);
@@ -217,6 +226,9 @@ static void refusals(void)
     build(QUERY, LENGTH, 1);
     room = 100;
     show("refusal 9", 9);
+    build(QUERY, LENGTH, 1);
+    option(TWIGMANTLE_HEAD_INLINE, TWIGMANTLE_INLINE_ON);
+    show("refusal 14", 14);
 }
 
 int main(int argc, char **argv)

@@ -2,19 +2,19 @@
  *
  * Link libtwigmantle.a (rt staticlib twigmantle; x86-64). It may call memcpy, memmove and memset, and nothing else; it allocates nothing.
  *
- * Pointers. Each must be good for the length given with it, and may be null where that length is 0. The sheet is only read, but by twigmantle_mend. The sheet, the buffer, the
+ * Pointers. Each must be good for the length given with it, and may be null where that length is 0. The sheet is only read, but by twigmantle_mend and twigmantle_convert. The sheet, the buffer, the
  * list, the table and the report may not overlap, and no one else may write to any of them during the call: to compact a sheet, lend another buffer than its own.
  *
  * Threads. The library keeps no state between calls or across them: any number of threads may call at once, each with a buffer and a list of its own. Sheets may be
- * shared, but one that is being mended. */
+ * shared, but one that is being mended or converted. */
 #ifndef TWIGMANTLE_H
 #define TWIGMANTLE_H
 
 #include <stddef.h>
 #include <stdint.h>
 
-/* The version of the sheet's form. It goes up when a number below changes, or when another set of sheets passes refusals 1 to 4. A sheet does not carry it. */
-#define TWIGMANTLE_FORM 2 /* 2: word TWIGMANTLE_HEAD_INLINE may be TWIGMANTLE_INLINE_COMMENTS */
+/* The version of the sheet's form. It goes up when a number below changes, or when another set of sheets passes refusals 1 to 4 and 14. A sheet does not carry it. */
+#define TWIGMANTLE_FORM 3 /* 2: word TWIGMANTLE_HEAD_INLINE may be TWIGMANTLE_INLINE_COMMENTS. 3: TWIGMANTLE_INLINE_ON is withdrawn there */
 
 #ifdef __cplusplus
 extern "C" {
@@ -31,14 +31,17 @@ struct twigmantle_report {
 };
 
 /* Lays out the sheet of n bytes into text, a buffer of room bytes.
- * n 0: refusal 1 at 0. room 0: the empty text if nothing was to be written, else a refusal; no byte is written. */
+ * n 0: refusal 1 at 0. room 0: the empty text if nothing was to be written, else a refusal; no byte is written.
+ *
+ * Refusal 14 at 28, of this and every other layout call: the sheet passes 1 to 4, and has TWIGMANTLE_INLINE_ON, which is withdrawn. It comes before every refusal but those
+ * four, whatever is lent. twigmantle_convert makes such a sheet one that is laid out. */
 struct twigmantle_report twigmantle_layout(const uint8_t *sheet, size_t n, uint8_t *text, size_t room);
 
 /* Does the same, with the same report and the same bytes in text, and lists in rows, a list of so many words, which parameter stands where: a row of
  * TWIGMANTLE_ROW_WORDS words (enum twigmantle_row) for each placeholder laid out, in the order of the tokens, and zero after the last row. A placeholder that is
  * switched off or dropped has no row. On a refusal the whole list is zero.
  *
- * Refusal 10 is this call's alone: fewer words than all those rows need. It comes after 4 and before any token is laid out: it counts the placeholders after a
+ * Refusal 10 is this call's alone: fewer words than all those rows need. It comes after 4 and 14, and before any token is laid out: it counts the placeholders after a
  * token that would be refused too. A list of TWIGMANTLE_MOST_LIST words is never too short. words 0, and rows may be null: serves a sheet that has no placeholder to
  * lay out; for any other 10 at 0. n 0 and room 0 are as above.
  *
@@ -51,7 +54,7 @@ struct twigmantle_report twigmantle_layout_rows(const uint8_t *sheet, size_t n, 
  * rows are those of the plain calls; their time grows with the number of tokens, where a plain call reads the rest of the sheet again at each top-level word and bracket.
  * The table is scratch: it may hold anything before the call, and is all zero afterwards, whatever the answer.
  *
- * Refusal 12 is these calls' alone: fewer than TWIGMANTLE_TABLE_WORDS words for each token of the sheet; after 4, and before 10. A table of TWIGMANTLE_MOST_TABLE words is
+ * Refusal 12 is these calls' alone: fewer than TWIGMANTLE_TABLE_WORDS words for each token of the sheet; after 4 and 14, and before 10. A table of TWIGMANTLE_MOST_TABLE words is
  * never too short. words 0, and table may be null: serves a sheet without tokens. */
 struct twigmantle_report twigmantle_layout_once(const uint8_t *sheet, size_t n, uint8_t *text, size_t room, uint32_t *table, size_t table_words);
 struct twigmantle_report twigmantle_layout_rows_once(const uint8_t *sheet, size_t n, uint8_t *text, size_t room, uint32_t *rows, size_t words, uint32_t *table,
@@ -67,12 +70,13 @@ struct twigmantle_outcome {
 /* How long a buffer never meets refusal 9 with the sheet of n bytes, whichever layout call is made: its length. Over the tokens laid out it is the sum of: the
  * length of what the token shows, 3, twice I, for each line feed in it I + 1, and the lines between queries if it is a `;`, where I is 128 times the indent's
  * width, a tab being 1. A token copied while formatting is off counts its length; one that is not kept, nothing. Most texts are far shorter.
- * Refusals 1 to 4 are those of the layout calls; no other is given. The sum can be larger than any memory: up to some 2 ^ 40. */
+ * Refusals 1 to 4 and 14 are those of the layout calls; no other is given. The sum can be larger than any memory: up to some 2 ^ 40. */
 struct twigmantle_outcome twigmantle_room(const uint8_t *sheet, size_t n);
 
 /* Writes the sheet of n bytes anew into out, a buffer of room bytes, and gives its length, with only those bytes of the bodies that some place covers, in their old order: a place
  * then starts at the number of kept bytes before its old start, and an empty place at 0. The new sheet stands at out's start, zero bytes after it. It passes
- * refusals 1 to 4, both layout calls answer as they do for the old one, it is not longer, and compacting it gives it back.
+ * refusals 1 to 4, every layout call answers as it does for the old one, it is not longer, and compacting it gives it back. TWIGMANTLE_INLINE_ON stays, so both sheets
+ * are then refused with 14; converted, they are laid out alike. To compact and then to convert gives the same sheet as to convert and then to compact.
  *
  * Refusals 1 to 4 are those of the layout calls. 11 at 0: room is less than the new sheet's length. A buffer as long as the old sheet is never too short. On a
  * refusal out is all zero. */
@@ -81,7 +85,7 @@ struct twigmantle_outcome twigmantle_compact(const uint8_t *sheet, size_t n, uin
 /* Mends the sheet of n bytes where it stands, so that it is not refused with 1 to 4, and gives as length how many words and bytes it changed. A bad option takes the Rust's
  * default; a bad mode, and mode None with parameters, becomes Indexed if there are parameters and else None; a name that the mode then forbids becomes 0, 0. A bad packed
  * word becomes TWIGMANTLE_KIND_WORD without key or alias, and key words that the class then forbids become 0. A place past the bodies becomes 0, 0. A body byte of 128 or
- * more becomes `?`. Nothing else is changed, nothing at all in a sheet that passes refusals 1 to 4, and mending twice is mending once.
+ * more becomes `?`. Nothing else is changed, nothing at all in a sheet that passes refusals 1 to 4 (so TWIGMANTLE_INLINE_ON stays), and mending twice is mending once.
  *
  * The report, a list of so many words, gets a row of TWIGMANTLE_CHANGE_WORDS words (enum twigmantle_change) for each change, in the order of the file, and zero after the
  * last row. With the old numbers put back the sheet is the one that came.
@@ -90,6 +94,13 @@ struct twigmantle_outcome twigmantle_compact(const uint8_t *sheet, size_t n, uin
  * leave the sheet as it came and the report all zero. A report of TWIGMANTLE_MOST_REPORT words is never too short. words 0, and report may be null: serves a sheet with
  * nothing to mend; for any other 13. So a call with words 0 tells whether a sheet is sound, and leaves it alone. */
 struct twigmantle_outcome twigmantle_mend(uint8_t *sheet, size_t n, uint32_t *report, size_t words);
+
+/* Converts the sheet of n bytes where it stands, and gives as length how many of its bytes it changed: TWIGMANTLE_INLINE_ON becomes TWIGMANTLE_INLINE_COMMENTS, which is
+ * byte 28 alone, and any other sheet is left as it is. The sheet then passes refusals 1 to 4 with the same counts, no layout call refuses it with 14, and converting
+ * twice is converting once.
+ *
+ * Refusals 1 to 4 are those of the layout calls; no other is given. A refusal leaves the sheet as it came; n 0 is refusal 1 at 0. */
+struct twigmantle_outcome twigmantle_convert(uint8_t *sheet, size_t n);
 
 /* Writes the default head into out, n bytes: its 48 bytes, zero after them, and gives 48. An out under 48 bytes becomes zero, and it gives 0; n 0 too. */
 size_t twigmantle_default_head(uint8_t *out, size_t n);
@@ -112,7 +123,7 @@ typedef char twigmantle_outcome_has_place_at_8[offsetof(struct twigmantle_outcom
 typedef char twigmantle_outcome_has_length_at_16[offsetof(struct twigmantle_outcome, length) == 16 ? 1 : -1];
 typedef char twigmantle_lengths_have_64_bits[sizeof(size_t) == 8 && sizeof(void *) == 8 ? 1 : -1];
 
-/* Refusals, and what the place counts: bytes of the sheet up to TWIGMANTLE_REFUSAL_BYTE, tokens up to TWIGMANTLE_REFUSAL_ROOM. */
+/* Refusals, and what the place counts: bytes of the sheet up to TWIGMANTLE_REFUSAL_BYTE and at TWIGMANTLE_REFUSAL_WITHDRAWN, tokens up to TWIGMANTLE_REFUSAL_ROOM. */
 enum twigmantle_refusal {
     TWIGMANTLE_REFUSAL_NONE = 0,
     TWIGMANTLE_REFUSAL_SIZE = 1,   /* under 48 bytes, a count over its bound, or a length that the counts do not give; place 0 */
@@ -127,7 +138,8 @@ enum twigmantle_refusal {
     TWIGMANTLE_REFUSAL_LIST = 10,  /* fewer than TWIGMANTLE_ROW_WORDS words for each placeholder to be laid out; place 0; of twigmantle_layout_rows alone */
     TWIGMANTLE_REFUSAL_SHEET = 11, /* a buffer shorter than the new sheet; place 0; of twigmantle_compact alone */
     TWIGMANTLE_REFUSAL_TABLE = 12, /* fewer than TWIGMANTLE_TABLE_WORDS words for each token; place 0; of the calls that read ahead once */
-    TWIGMANTLE_REFUSAL_REPORT = 13 /* fewer than TWIGMANTLE_CHANGE_WORDS words for each change; place 0; of twigmantle_mend alone */
+    TWIGMANTLE_REFUSAL_REPORT = 13, /* fewer than TWIGMANTLE_CHANGE_WORDS words for each change; place 0; of twigmantle_mend alone */
+    TWIGMANTLE_REFUSAL_WITHDRAWN = 14 /* word TWIGMANTLE_HEAD_INLINE is TWIGMANTLE_INLINE_ON: its offset, 28; of the layout calls and twigmantle_room */
 };
 
 /* A row of the list, by word: where a placeholder's value stands in the text. */
@@ -201,8 +213,8 @@ enum twigmantle_case { TWIGMANTLE_CASE_AS_IS = 0, TWIGMANTLE_CASE_UPPER = 1, TWI
 
 enum twigmantle_inline {
     TWIGMANTLE_INLINE_OFF = 0,
-    TWIGMANTLE_INLINE_ON = 1,      /* everything on one line: what follows a line comment too, and is then part of the comment */
-    TWIGMANTLE_INLINE_COMMENTS = 2 /* as ON, but each line comment ends its line: a text to be run */
+    TWIGMANTLE_INLINE_ON = 1,      /* withdrawn: refusal 14. It was everything on one line, so that what followed a line comment was part of the comment */
+    TWIGMANTLE_INLINE_COMMENTS = 2 /* everything on one line, but each line comment ends its line: a text to be run */
 };
 
 #define TWIGMANTLE_LIMIT_NONE 0xffffffffu /* no limit given, in words 10 and 11 alone */

@@ -82,6 +82,8 @@ mod linked {
             report: *mut u32,
             words: usize,
         ) -> super::Outcome;
+        #[cfg(feature = "convert")]
+        pub fn twigmantle_convert(sheet: *mut u8, n: usize) -> super::Outcome;
     }
 }
 
@@ -232,16 +234,9 @@ pub fn mended(
     old: &[u8],
     words: usize,
 ) -> Result<Result<(Vec<u8>, Vec<[u32; 3]>), Refusal>, String> {
-    const BESIDE: usize = 8;
-    let beside = [PAINT; BESIDE];
-    let mut bytes = [&beside, old, &beside].concat();
     let mut report = Lent::new(words);
-    let outcome = mend(&mut bytes[BESIDE..BESIDE + old.len()], report.lent());
+    let (outcome, new) = in_place(old, |sheet| mend(sheet, report.lent()))?;
     let report = report.left("the report")?;
-    let (new, after) = bytes[BESIDE..].split_at(old.len());
-    if bytes[..BESIDE] != beside || *after != beside {
-        return Err(format!("a byte beside the sheet of {}", old.len()));
-    }
     let rows =
         (outcome.length as usize).checked_mul(3).and_then(|rows| report.split_at_checked(rows));
     let (rows, rest) = rows.ok_or(format!("more changes than the report holds: {outcome:?}"))?;
@@ -251,13 +246,51 @@ pub fn mended(
     match (outcome.refusal, outcome.place, outcome.length) {
         (0, 0, _) => {
             let rows = rows.chunks_exact(3).map(|row| [row[0], row[1], row[2]]);
-            Ok(Ok((new.to_vec(), rows.collect())))
+            Ok(Ok((new, rows.collect())))
         }
         (number @ 1.., place, 0) if new == old => {
             Ok(Err(Refusal { number, place: place as usize }))
         }
         (1.., _, 0) => Err(format!("refused, and the sheet is another: {outcome:?}")),
         _ => Err(format!("the mender's numbers do not go together: {outcome:?}")),
+    }
+}
+
+/// What a call makes of a sheet where it lies; an error if it wrote beside it.
+#[cfg(feature = "mend")]
+fn in_place(
+    old: &[u8],
+    call: impl FnOnce(&mut [u8]) -> Outcome,
+) -> Result<(Outcome, Vec<u8>), String> {
+    const BESIDE: usize = 8;
+    let beside = [PAINT; BESIDE];
+    let mut bytes = [&beside, old, &beside].concat();
+    let outcome = call(&mut bytes[BESIDE..BESIDE + old.len()]);
+    let (new, after) = bytes[BESIDE..].split_at(old.len());
+    if bytes[..BESIDE] != beside || *after != beside {
+        return Err(format!("a byte beside the sheet of {}", old.len()));
+    }
+    Ok((outcome, new.to_vec()))
+}
+
+#[cfg(feature = "convert")]
+pub fn convert(sheet: &mut [u8]) -> Outcome {
+    // Safe: the slice is as long as is said, and lent to this call alone.
+    unsafe { linked::twigmantle_convert(sheet.as_mut_ptr(), sheet.len()) }
+}
+
+/// The converted sheet; an error if the call left a byte that it may not leave, or did not count those
+/// that it changed.
+#[cfg(feature = "convert")]
+pub fn converted(old: &[u8]) -> Result<Result<Vec<u8>, Refusal>, String> {
+    let (outcome, new) = in_place(old, convert)?;
+    let changed = old.iter().zip(&new).filter(|(old, new)| old != new).count();
+    match (outcome.refusal, outcome.place, outcome.length) {
+        (0, 0, length) if length == changed as u64 => Ok(Ok(new)),
+        (number @ 1.., place, 0) if changed == 0 => {
+            Ok(Err(Refusal { number, place: place as usize }))
+        }
+        _ => Err(format!("converted, {changed} bytes are others: {outcome:?}")),
     }
 }
 

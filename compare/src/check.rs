@@ -6,9 +6,9 @@ use std::fs;
 use crate::model::{self, Answer, Refusal, Row, Trial, WORDS};
 use crate::oracle::{self, Panic, Read};
 use crate::random::{self, Dice, Made, noise, white};
-use crate::sheet::{INLINE_ON, NAMES, Reader, Sheet};
+use crate::sheet::{INLINE_COMMENTS, INLINE_ON, NAMES, Reader, Sheet};
 use crate::watched;
-use crate::{compacted, mended, once, pointed, roomed};
+use crate::{compacted, converted, mended, once, pointed, roomed};
 use crate::{show, watched::Height};
 
 #[derive(Default)]
@@ -53,37 +53,23 @@ pub fn run(n: u64, seed: u64) -> bool {
         let made = random::make_any(&mut dice);
         let ample = model::trial(&made.bytes, model::AMPLE);
         let room = room(&mut dice, peak(&ample.heights));
-        let answer = model::answer(&made.bytes, room);
-        let compared = compare(&made, &ample).and_then(|how| {
-            let expected = at_room(&ample, room);
-            if answer != expected {
-                return Err(format!("at {room}, by the heights: {expected:?}"));
-            }
-            call(&made.bytes, &ample, room)?;
-            let pointed = pointed::judged(&made.bytes, &ample)?;
-            tally.add("a rows judged by", pointed);
-            pointed::call(&made.bytes, &ample, room)?;
-            once::call(&made.bytes, &ample, room)?;
-            once::call(&made.bytes, &ample, peak(&ample.heights))?;
-            let new = compacted::judged(&made.bytes, &ample, room)?;
-            tally.add("d compacted", new);
-            compacted::call(&mut dice, &made.bytes)?;
-            tally.add("e room for the sum", roomed::judged(&made.bytes, &ample)?);
-            roomed::call(&made.bytes, &ample)?;
-            let mended = mended::judged(&made.bytes, &ample)?;
-            tally.add("f mended", mended.how);
-            mended.changed.iter().for_each(|word| tally.add("g changed", *word));
-            mended::call(&made.bytes)?;
+        let compared = tried(&mut tally, &mut dice, &made, &ample, room).and_then(|how| {
+            tally.add("h converted", converted::judged(&made.bytes, &ample)?);
+            converted::call(&made.bytes)?;
             if turn % EVERY == 0 {
                 every_room(&mut tally, &made.bytes, &ample)?;
                 every_list(&mut tally, &made.bytes, &ample, room)?;
                 every_report(&mut tally, &made.bytes)?;
                 every_length(&mut tally, &made)?;
             }
+            if let Some(twin) = converted::twin(&made, &ample) {
+                let how = laid_as_two(&mut tally, &mut dice, &twin)?;
+                tally.add("i converted, then compared", how);
+            }
             Ok(how)
         });
         match compared {
-            Ok(how) => note(&mut tally, &made, &ample, &answer, how),
+            Ok(how) => note(&mut tally, &made, &ample, &model::answer(&made.bytes, room), how),
             Err(difference) => {
                 report(&made, room, seed, turn, &difference);
                 return false;
@@ -97,7 +83,8 @@ pub fn run(n: u64, seed: u64) -> bool {
     tally.print();
     println!("each length from 0 to {} is met {} times or more", noise::LONGEST, least(&lengths));
     let with = [
-        (cfg!(feature = "mend"), ", every call too"),
+        (cfg!(feature = "convert"), ", every call too"),
+        (cfg!(feature = "mend"), ", every call but the converter too"),
         (cfg!(feature = "room"), ", every call but the mender too"),
         (cfg!(feature = "once"), ", both calls on both engines and the compacting too"),
         (cfg!(feature = "compact"), ", both calls and the compacting too"),
@@ -108,6 +95,42 @@ pub fn run(n: u64, seed: u64) -> bool {
     let with = with.iter().find(|(linked, _)| *linked).map_or("", |(_, said)| said);
     println!("{n} sheets, seed {seed}{with}: no difference");
     true
+}
+
+/// Everything but the converter, on one sheet; says what was compared with the Rust.
+fn tried(
+    tally: &mut Tally,
+    dice: &mut Dice,
+    made: &Made,
+    ample: &Trial,
+    room: usize,
+) -> Result<&'static str, String> {
+    let (bytes, how) = (&made.bytes, compare(made, ample)?);
+    let expected = at_room(ample, room);
+    if model::answer(bytes, room) != expected {
+        return Err(format!("at {room}, by the heights: {expected:?}"));
+    }
+    call(bytes, ample, room)?;
+    tally.add("a rows judged by", pointed::judged(bytes, ample)?);
+    pointed::call(bytes, ample, room)?;
+    once::call(bytes, ample, room)?;
+    once::call(bytes, ample, peak(&ample.heights))?;
+    tally.add("d compacted", compacted::judged(bytes, ample, room)?);
+    compacted::call(dice, bytes)?;
+    tally.add("e room for the sum", roomed::judged(bytes, ample)?);
+    roomed::call(bytes, ample)?;
+    let mended = mended::judged(bytes, ample)?;
+    tally.add("f mended", mended.how);
+    mended.changed.iter().for_each(|word| tally.add("g changed", *word));
+    mended::call(bytes)?;
+    Ok(how)
+}
+
+/// A converted sheet: all that is asked of a sheet with word 7 at 2.
+fn laid_as_two(tally: &mut Tally, dice: &mut Dice, twin: &Made) -> Result<&'static str, String> {
+    let ample = model::trial(&twin.bytes, model::AMPLE);
+    let room = room(dice, peak(&ample.heights));
+    tried(tally, dice, twin, &ample, room).map_err(|said| format!("converted: {said}"))
 }
 
 fn least(counts: &[u64]) -> u64 {
@@ -144,10 +167,11 @@ fn compare(made: &Made, ample: &Trial) -> Result<&'static str, String> {
     if made.sheet.is_some() && made.sheet != Sheet::decode(&made.bytes) {
         return Err("decoded otherwise than encoded".into());
     }
-    if oracle::judges(&made.bytes) {
-        against_rust(&made.bytes, ample)
-    } else {
-        beside_one(&made.bytes, ample)
+    match oracle::inline(&made.bytes) {
+        Some(INLINE_ON) if ample.answer == converted::WITHDRAWN => Ok("none: word 7 at 1"),
+        Some(INLINE_ON) => Err("word 7 is 1, and it is not refused".into()),
+        Some(INLINE_COMMENTS) => beside_on(&made.bytes, ample),
+        _ => against_rust(&made.bytes, ample),
     }
 }
 
@@ -171,26 +195,37 @@ fn against_rust(bytes: &[u8], ample: &Trial) -> Result<&'static str, String> {
     }
 }
 
-/// Word 7 at 2 is not the Rust's, but at 1 the same sheet is. Only white bytes may differ, and none
-/// where no line comment is laid out; refusals do not, at an ample buffer.
-fn beside_one(bytes: &[u8], two: &Trial) -> Result<&'static str, String> {
+/// Word 7 at 2 is not the Rust's, but inline on is. Only white bytes may differ, and none where no line
+/// comment is laid out; refusals do not, at an ample buffer.
+fn beside_on(bytes: &[u8], two: &Trial) -> Result<&'static str, String> {
     let mut bytes = bytes.to_vec();
     bytes[28..32].copy_from_slice(&INLINE_ON.to_le_bytes());
-    let one = model::trial(&bytes, model::AMPLE);
-    against_rust(&bytes, &one).map_err(|said| format!("word 7 at 1 for 2: {said}"))?;
+    let on = model::trial_with_on(&bytes, model::AMPLE);
+    against_rust(&bytes, &on).map_err(|said| format!("inline on for 2: {said}"))?;
+    watched_rows(&bytes, &on).map_err(|said| format!("inline on for 2: {said}"))?;
     let told = |how: &'static str, same: bool| {
-        same.then_some(how).ok_or(format!("at 1 it is {}", show::answer(&one.answer)))
+        same.then_some(how).ok_or(format!("with inline on it is {}", show::answer(&on.answer)))
     };
     if !two.handlers.contains(&"line comment") {
-        let same = two.answer == one.answer && two.heights == one.heights;
-        return told("the Rust at 1 for 2: all", same);
+        let same = two.answer == on.answer && two.heights == on.heights && two.rows == on.rows;
+        return told("the Rust's inline on: all", same);
     }
-    match (&one.answer, &two.answer) {
-        (Answer::Laid { text: one, .. }, Answer::Laid { text: two, .. }) => {
-            told("the Rust at 1 for 2: all but white", solid(one).eq(solid(two)))
+    match (&on.answer, &two.answer) {
+        (Answer::Laid { text: on, .. }, Answer::Laid { text: two, .. }) => {
+            told("the Rust's inline on: all but white", solid(on).eq(solid(two)))
         }
-        (one, two) => told("the Rust at 1 for 2: refusal", one == two),
+        (on, two) => told("the Rust's inline on: refusal", on == two),
     }
+}
+
+/// The rows of a text that is laid out with inline on.
+fn watched_rows(bytes: &[u8], on: &Trial) -> Result<(), String> {
+    if !matches!(on.answer, Answer::Laid { .. }) {
+        return Ok(());
+    }
+    let rows = oracle::read(bytes).and_then(|read| read.rows());
+    let same = rows.as_ref() == Some(&on.rows);
+    same.then_some(()).ok_or_else(|| format!("rows, watched Rust {rows:?}"))
 }
 
 fn solid(text: &[u8]) -> impl Iterator<Item = &u8> {

@@ -6,6 +6,7 @@ mod answers;
 mod call;
 mod check;
 mod compacted;
+mod converted;
 mod mended;
 mod model;
 mod once;

@@ -5,6 +5,7 @@
 mod ahead;
 mod checks;
 mod compact;
+mod convert;
 mod layout;
 mod mend;
 mod room;
@@ -13,6 +14,7 @@ mod text;
 
 use crate::watched::{Height, Stretch};
 pub use compact::compacted;
+pub use convert::converted;
 pub use mend::{CHANGE, Change, mended};
 pub use room::room;
 pub use rows::{Row, WORDS, list};
@@ -29,6 +31,13 @@ pub enum Answer {
     Refused(Refusal),
 }
 
+impl Answer {
+    /// Refused by a check of the sheet, before the lent list, the table and the buffer are looked at.
+    pub fn is_of_checks(&self) -> bool {
+        matches!(self, Answer::Refused(Refusal { number: 1..=4 | 14, .. }))
+    }
+}
+
 /// The answer with what led to it, for the comparison and for the choice of buffers.
 pub struct Trial {
     pub answer: Answer,
@@ -38,7 +47,7 @@ pub struct Trial {
     pub rows: Vec<Row>,
     /// The same, found by other means.
     pub stretches: Vec<Stretch>,
-    /// The placeholders to be laid out; none on refusals 1 to 4.
+    /// The placeholders to be laid out; none on refusals 1 to 4 and 14.
     pub placeholders: usize,
 }
 
@@ -75,11 +84,23 @@ pub fn answer(sheet: &[u8], room: usize) -> Answer {
 }
 
 pub fn trial(sheet: &[u8], room: usize) -> Trial {
-    let head = match checks::check(sheet) {
-        Ok(head) => head,
-        Err(refusal) => return Trial::refused(refusal),
-    };
-    let mut layout = layout::Layout::new(sheet, &head, room);
+    match checks::check_for_layout(sheet) {
+        Ok(head) => laid_out(sheet, &head, room),
+        Err(refusal) => Trial::refused(refusal),
+    }
+}
+
+/// Word 7 at 1 laid out all the same. No call does so: it is the Rust's inline on, by which the Rust
+/// judges what 2 has in common with it.
+pub fn trial_with_on(sheet: &[u8], room: usize) -> Trial {
+    match checks::check(sheet) {
+        Ok(head) => laid_out(sheet, &head, room),
+        Err(refusal) => Trial::refused(refusal),
+    }
+}
+
+fn laid_out(sheet: &[u8], head: &checks::Head, room: usize) -> Trial {
+    let mut layout = layout::Layout::new(sheet, head, room);
     let placeholders = layout.placeholders();
     let laid = layout.lay_out();
     let (text, handlers) = (layout.text, layout.handlers);
@@ -98,11 +119,10 @@ pub fn trial(sheet: &[u8], room: usize) -> Trial {
     }
 }
 
-/// Refusal 10 comes after 4 and before any token is laid out.
+/// Refusal 10 comes after 4 and 14, and before any token is laid out.
 pub fn listed(sheet: &[u8], room: usize, words: usize) -> Listed {
     let Trial { answer, rows, placeholders, .. } = trial(sheet, room);
-    let before = matches!(answer, Answer::Refused(Refusal { number: 1..=4, .. }));
-    if !before && words < WORDS * placeholders {
+    if !answer.is_of_checks() && words < WORDS * placeholders {
         let answer = Answer::Refused(Refusal { number: 10, place: 0 });
         return Listed { answer, list: vec![0; words] };
     }

@@ -7,10 +7,9 @@ use crate::model::{Answer, Refusal, Trial};
 /// Words of the table for each token, as `docs/ahead.md` has it.
 pub const TABLE: usize = 6;
 
-/// Refusal 12: fewer than six words for each token; after 4, before 10 and the tokens.
-fn expected(bytes: &[u8], ample: &Trial, room: usize, table: usize) -> Answer {
-    let sound = !matches!(ample.answer, Answer::Refused(Refusal { number: 1..=4, .. }));
-    if sound && table < TABLE * tokens(bytes) {
+/// Refusal 12: fewer than six words for each token; after 4 and 14, before 10 and the tokens.
+pub fn expected(bytes: &[u8], ample: &Trial, room: usize, table: usize) -> Answer {
+    if !ample.answer.is_of_checks() && table < TABLE * tokens(bytes) {
         return Answer::Refused(Refusal { number: 12, place: 0 });
     }
     at_room(ample, room)

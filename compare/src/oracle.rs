@@ -111,9 +111,15 @@ fn caught<T>(run: impl FnOnce() -> T) -> Result<T, Panic> {
     })
 }
 
-/// Whether the Rust knows this sheet's options: word 7 at 2 is not the Rust's.
+/// Word 7, where there is one.
+pub fn inline(sheet: &[u8]) -> Option<u32> {
+    Reader::new(sheet).map(|reader| reader.head.options.inline)
+}
+
+/// Whether the Rust judges all of this sheet's answer: word 7 at 2 is not the Rust's, and at 1 it is
+/// withdrawn.
 pub fn judges(sheet: &[u8]) -> bool {
-    Reader::new(sheet).is_none_or(|reader| reader.head.options.inline != sheet::INLINE_COMMENTS)
+    !matches!(inline(sheet), Some(sheet::INLINE_ON | sheet::INLINE_COMMENTS))
 }
 
 /// Only for sheets that pass checks 1 to 4 and have word 7 at 0 or 1; any other may give `None` or

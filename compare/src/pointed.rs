@@ -114,8 +114,7 @@ fn laid(sheet: &Sheet) -> Option<Vec<u8>> {
 
 /// What the second call gives at this buffer and list, worked out from the ample trial.
 pub fn expected(ample: &Trial, room: usize, words: usize) -> Listed {
-    let checked = !matches!(ample.answer, Answer::Refused(Refusal { number: 1..=4, .. }));
-    let short = checked && words < WORDS * ample.placeholders;
+    let short = !ample.answer.is_of_checks() && words < WORDS * ample.placeholders;
     let answer = match short {
         true => Answer::Refused(Refusal { number: 10, place: 0 }),
         false => at_room(ample, room),

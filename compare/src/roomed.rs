@@ -16,6 +16,9 @@ pub fn judged(bytes: &[u8], ample: &Trial) -> Result<&'static str, String> {
             return same.then_some("refused").ok_or(format!("the sum gives {refusal:?}"));
         }
     };
+    if ample.answer.is_of_checks() {
+        return Err(format!("the sum is {sum} for a sheet that the checks refuse"));
+    }
     match sum.checked_sub(peak(&ample.heights) as u64) {
         None => Err(format!("the sum is {sum}, and the text got {}", peak(&ample.heights))),
         Some(0) if sum > 0 => Ok("the text gets as long"),

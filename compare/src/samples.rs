@@ -174,9 +174,16 @@ fn samples() -> Vec<Sample> {
     ));
     samples.push(sample(
         "console",
-        "For the console: one line, but a line comment ends its own, so all of it runs. With `inline` 1 \
+        "For the console: one line, but a line comment ends its own, so all of it runs. With the Rust's inline \
          nothing after the `--` would run.",
         with(filled(of(CONSOLE), MODE_INDEXED, LIST), |o| o.inline = INLINE_COMMENTS),
+    ));
+    samples.push(sample(
+        STORED,
+        "The same as it was stored before `inline` 1 was withdrawn: layout refuses it. \
+         `target/bin/convert_sheet < samples/stored.sheet` writes it with `inline` 2 (`stored.converted`), and that \
+         is the sheet above.",
+        with(filled(of(CONSOLE), MODE_INDEXED, LIST), |o| o.inline = INLINE_ON),
     ));
     samples.push(sample(
         EDITED,
@@ -197,6 +204,9 @@ fn samples() -> Vec<Sample> {
     samples.extend(refused());
     samples
 }
+
+/// The sample with the `inline` that is withdrawn.
+const STORED: &str = "stored";
 
 /// The sample with old text in its bodies.
 const EDITED: &str = "edited";
@@ -367,6 +377,12 @@ fn write(folder: &Path) -> io::Result<()> {
         if sample.name == EDITED {
             let new = model::compacted(&bytes, ROOM).expect("a sound sheet");
             fs::write(folder.join(sample.name).with_extension("compact"), new)?;
+        }
+        if sample.name == STORED {
+            let new = model::converted(&bytes).expect("a sound sheet");
+            let text = printed(&table::judged(&new, ROOM));
+            page += &format!("\nand, converted,\n\n{}", block(&text));
+            fs::write(folder.join(sample.name).with_extension("converted"), new)?;
         }
         if sample.name == DAMAGED {
             let (new, changes) = model::mended(&bytes, ROOM).expect("a sheet of the right size");

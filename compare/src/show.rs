@@ -4,7 +4,7 @@ use std::fs;
 
 use crate::model::{self, Answer, Refusal, Row};
 use crate::oracle;
-use crate::sheet::{Key, NAMES, Sheet};
+use crate::sheet::{INLINE_COMMENTS, INLINE_ON, Key, NAMES, Sheet};
 
 pub fn run(file: &str, room: usize) -> bool {
     let bytes = match fs::read(file) {
@@ -27,8 +27,12 @@ pub fn rust(bytes: &[u8]) -> String {
     if refused_before_layout(bytes) {
         return "not run".into();
     }
-    if !oracle::judges(bytes) {
-        return "not run: word 7 is 2, which the Rust has not; the model judges".into();
+    match oracle::inline(bytes) {
+        Some(INLINE_ON) => return "not run: word 7 is 1, which is withdrawn".into(),
+        Some(INLINE_COMMENTS) => {
+            return "not run: word 7 is 2, which the Rust has not; the model judges".into();
+        }
+        _ => {}
     }
     match oracle::read(bytes).map(|read| read.text()) {
         None => "not run".into(),
@@ -38,8 +42,7 @@ pub fn rust(bytes: &[u8]) -> String {
 }
 
 fn refused_before_layout(bytes: &[u8]) -> bool {
-    let answer = model::answer(bytes, model::AMPLE);
-    matches!(answer, Answer::Refused(Refusal { number: 1..=4, .. }))
+    model::check(bytes).is_err()
 }
 
 pub fn answer(answer: &Answer) -> String {

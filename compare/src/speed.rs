@@ -12,6 +12,8 @@ use shapes::{Maker, SHAPES};
 
 #[cfg(feature = "compact")]
 mod compact;
+#[cfg(feature = "convert")]
+mod convert;
 mod costly;
 #[cfg(feature = "mend")]
 mod mend;
@@ -62,6 +64,8 @@ pub fn run(seed: u64, part: &str) -> bool {
     room::run(part);
     #[cfg(feature = "mend")]
     mend::run(part);
+    #[cfg(feature = "convert")]
+    convert::run(part);
     true
 }
 

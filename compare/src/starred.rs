@@ -1,13 +1,16 @@
 //! Document 01's fourteen sheets, each with every variant and buffer that it names; further ones;
 //! those on word 7 at 2, which the Rust has not; those whose rows are known; those whose
-//! compacted sheet is; those whose room is; and damaged ones whose changes are.
+//! compacted sheet is; those whose room is; damaged ones whose changes are; and those around word 7 at 1,
+//! which is withdrawn.
 
 mod compact;
+mod convert;
 mod mend;
 mod room;
 mod rows;
 
 use crate::check::{columns, measured};
+use crate::converted::WITHDRAWN;
 use crate::model::{self, Answer, Refusal};
 use crate::oracle::{self, Panic};
 use crate::sheet::*;
@@ -242,7 +245,7 @@ fn further_sheets() -> Vec<Case> {
     ]
 }
 
-/// The sheet at word 7 = 0, 1, 2.
+/// The sheet at word 7 = 0, 1, 2. What is wanted at 1 is the Rust's: no call lays it out.
 fn at_three(name: &'static str, sheet: Sheet, room: usize, wanted: [Answer; 3]) -> Vec<Case> {
     let one = |(inline, wanted)| {
         let sheet = with(sheet.clone(), |o| o.inline = inline);
@@ -387,7 +390,9 @@ pub fn run() -> bool {
     let compacted = compact::run();
     let room = room::run();
     let mended = mend::run();
-    sheets && further && comments && tabs && rows && compacted && room && mended && head()
+    let converted = convert::run();
+    let later = rows && compacted && room && mended && converted;
+    sheets && further && comments && tabs && later && head()
 }
 
 /// The two heads of the library, where it is linked.
@@ -412,12 +417,19 @@ fn count(cases: Vec<Case>, what: &str) -> bool {
 fn is_right(case: &Case) -> bool {
     let bytes = case.sheet.encode(&mut in_turn);
     let model = model::answer(&bytes, case.room);
-    let right = model == case.wanted && rust_agrees(case, &bytes) && call_agrees(case, &bytes);
+    let on = model::trial_with_on(&bytes, case.room).answer;
+    let models = model == asked(case) && on == case.wanted;
+    let right = models && rust_agrees(case, &bytes) && call_agrees(case, &bytes);
     if !right {
         println!("sheet {}: wanted {}", case.name, show::answer(&case.wanted));
         println!("model {}\nRust {}", show::answer(&model), show::rust(&bytes));
     }
     right
+}
+
+/// What layout gives: the refusal, where word 7 is 1.
+fn asked(case: &Case) -> Answer {
+    if case.sheet.options.inline == INLINE_ON { WITHDRAWN } else { case.wanted.clone() }
 }
 
 /// The proved call, where it is linked.
@@ -426,7 +438,7 @@ fn call_agrees(case: &Case, bytes: &[u8]) -> bool {
     let (whose, got) = ("call", crate::call::answer(bytes, case.room));
     #[cfg(not(feature = "call"))]
     let (whose, got) = ("model", Ok::<_, String>(model::answer(bytes, case.room)));
-    let right = got.as_ref() == Ok(&case.wanted);
+    let right = got.as_ref() == Ok(&asked(case));
     if !right {
         println!("the {whose}: {}", got.map_or_else(|said| said, |got| show::answer(&got)));
     }
@@ -435,7 +447,7 @@ fn call_agrees(case: &Case, bytes: &[u8]) -> bool {
 
 /// Refusals 6 and 9 are not the Rust's, nor is word 7 at 2.
 fn rust_agrees(case: &Case, bytes: &[u8]) -> bool {
-    if !oracle::judges(bytes) {
+    if oracle::inline(bytes) == Some(INLINE_COMMENTS) {
         return true;
     }
     let Some(rust) = oracle::read(bytes).map(|read| read.text()) else {

@@ -18,7 +18,8 @@ pub struct Row {
     pub answer: Answer,
 }
 
-/// Texts come from the Rust itself, with word 7 at 2 from the model; refusals from the model.
+/// Texts come from the Rust itself, with word 7 at 2 from the model; refusals from the model, with word
+/// 7 at 1 refusal 14.
 pub fn judged(bytes: &[u8], room: usize) -> Answer {
     let answer = model::answer(bytes, room);
     if matches!(answer, Answer::Refused(_)) || !oracle::judges(bytes) {
@@ -114,7 +115,7 @@ fn attempt(dice: &mut Dice, wanted: Wanted, inline: Inline) -> Option<Row> {
 
 fn made(dice: &mut Dice, maker: Maker, wanted: Wanted, inline: Inline) -> Option<Row> {
     let Made { bytes, .. } = random::make_with(dice, maker, Size::Table, inline);
-    let need = peak(&model::trial(&bytes, model::AMPLE).heights);
+    let need = peak(&model::trial_with_on(&bytes, model::AMPLE).heights);
     let room = match wanted {
         Wanted::Full => match dice.below(3) {
             0 => dice.below(need),
@@ -123,9 +124,11 @@ fn made(dice: &mut Dice, maker: Maker, wanted: Wanted, inline: Inline) -> Option
         Wanted::Damaged => dice.below(64),
         _ => need + dice.pick(&[0, 0, 1, 7, 64]),
     };
-    let answer = judged(&bytes, room);
+    // Chosen as before word 7 at 1 was withdrawn, so that all other rows of the list stay.
+    let sent = model::trial_with_on(&bytes, room).answer;
     let short = bytes.len() <= LONGEST_SHEET && need <= LONGEST_TEXT;
-    (short && fits(dice, &answer, wanted)).then_some(Row { bytes, room, answer })
+    let chosen = short && fits(dice, &sent, wanted);
+    chosen.then(|| Row { answer: judged(&bytes, room), bytes, room })
 }
 
 fn fits(dice: &mut Dice, answer: &Answer, wanted: Wanted) -> bool {

@@ -45,7 +45,7 @@ fn changed(dice: &mut Dice, sheet: &Sheet) -> Sheet {
         2 => {
             let options = &mut sheet.options;
             options.indent = dice.pick(&[0, 0, 0, 1, 2, 256]);
-            options.inline = dice.pick(&[0, 1, 2]);
+            options.inline = dice.pick(&[0, 2]);
             options.lines = dice.pick(&[0, 1, 3, 255]);
             options.block = dice.pick(&[0, 50]);
             options.top_level = dice.pick(&[0, 60, NONE]);

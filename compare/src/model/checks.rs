@@ -36,6 +36,15 @@ pub fn check(sheet: &[u8]) -> Result<Head, Refusal> {
     Ok(head)
 }
 
+/// What layout and the room ask (document 02, Wish 12): 14, after 4, if word 7 is 1.
+pub fn check_for_layout(sheet: &[u8]) -> Result<Head, Refusal> {
+    let head = check(sheet)?;
+    if word(sheet, 28) == 1 {
+        return Err(Refusal { number: 14, place: 28 });
+    }
+    Ok(head)
+}
+
 /// Check 1; `None` is its refusal.
 pub fn head(sheet: &[u8]) -> Option<Head> {
     if sheet.len() < HEAD {

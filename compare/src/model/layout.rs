@@ -428,6 +428,8 @@ impl<'s> Layout<'s> {
         if inlined {
             self.handlers.push("- inline block");
             self.inline.push(block.length);
+            // Document 02, Wish 11: no sheet opens a 129th, since 6 comes first.
+            assert!(self.inline.len() <= DEEPEST, "a 129th open inline block");
             self.note_if(self.inline.len() == DEEPEST, "- 128th inline block");
         }
         self.before_bracket(token)?;

@@ -1,13 +1,13 @@
 //! Document 02, Wish 9: the sum that the working text never passes.
 
 use super::Refusal;
-use super::checks::{Head, check, key_class, word};
+use super::checks::{Head, check_for_layout, key_class, word};
 use super::layout::switch;
 use crate::sheet::*;
 
-/// A refusal of 1 to 4, or the sum.
+/// A refusal of 1 to 4 or 14, or the sum.
 pub fn room(sheet: &[u8]) -> Result<u64, Refusal> {
-    let head = check(sheet)?;
+    let head = check_for_layout(sheet)?;
     let place = |at: usize| place(sheet, &head, at);
     let indent = if word(sheet, 20) == 256 { 1 } else { u64::from(word(sheet, 20)) };
     let i = 128 * indent;

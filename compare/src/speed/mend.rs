@@ -7,12 +7,12 @@ use crate::call;
 use crate::model;
 use crate::sheet::*;
 
-const SIZES: [usize; 3] = [128, 512, 1024];
+pub const SIZES: [usize; 3] = [128, 512, 1024];
 /// Words of a report that is never too short.
 const LONGEST: usize = 117_135;
 
 /// Every count in proportion, up to its bound; a name on each token.
-fn sound(size: usize) -> Costly {
+pub fn sound(size: usize) -> Costly {
     let body = 32 * size;
     let place = |i: usize| (i * 37 % (body - 8)) as u32;
     let named = u32::from(PLACEHOLDER) | 1 << 5;

@@ -87,7 +87,7 @@ fn sheet(dice: &mut Dice) -> (Costly, String) {
     let options = Options {
         indent: dice.pick(&[0, 2, 255, 256]),
         case: dice.below(3) as u32,
-        inline: u32::from(dice.one_in(6)),
+        inline: INLINE_OFF,
         lines: dice.pick(&[0, 1, 255]),
         block: dice.pick(&[0, 50, 1000, u32::MAX]),
         arguments: limit(dice),

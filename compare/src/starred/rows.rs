@@ -126,7 +126,7 @@ fn cut() -> Vec<Known> {
         ),
         at("five zero words", &[MARK], &[""], &[""], &[first(0)]),
         at("an empty one between", &[A, MARK, A], &[""], &["a  a"], &[nothing(1, 2)]),
-        shown("a held line feed, word 7 at 1", held(1), &["-- c::t"], &[nothing(1, 4)]),
+        shown("a held line feed, word 7 at 0", held(0), &["-- c::t"], &[nothing(1, 4)]),
         shown("a held line feed, word 7 at 2", held(2), &["-- c", "::t"], &[nothing(1, 5)]),
     ]
     .concat()

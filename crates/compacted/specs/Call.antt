@@ -1,5 +1,5 @@
 -- The call that compacts: what stands in its buffer where it refuses nothing.
-use mathlib.Core.Path.{_≡_, refl, sym, _∙_}
+use mathlib.Core.Path.{_≡_, refl}
 use mathlib.Core.Bool.{Bool, true, false}
 use mathlib.Core.List.{List}
 use Prim.Native.Nat.{ℕ}
@@ -13,18 +13,18 @@ use Rattle.rules.specs.declared.Checked.the-variants as found
 use Rattle.rules.specs.declared.Outcome.{Outcome}
 use Rattle.rules.specs.Base.{if_then_else_}
 use Rattle.rules.specs.Checks.{checked}
-use Rattle.rules.specs.Compacted.{compacted, Written, wrote, refusal, compactAs, compact, outcomeOf, bufferWith, SameSheet, Compacts}
+use Rattle.rules.specs.Compacted.{compacted, Written, wrote, refusal, compactAs, compact, outcomeOf, bufferWith, Compacts}
 use Rattle.compacted.specs.Theorem.{same-sheet}
 
--- what is written is the same sheet; a refusal has a number
+-- what is written is a sound sheet compacted; a refusal has a number
 Says : List ℕ → Written → Type 0
-Says s (wrote b) = SameSheet s b
+Says s (wrote b) = (c : Counts) × ((checked s ≡ found.Sound c) × (b ≡ compacted s c))
 Says s (refusal n p) = n ≡ 0 → ⊥
 
 enough : (s : List ℕ) (c : Counts) (short : Bool) → checked s ≡ found.Sound c → Says s (if short then refusal 11 0 else wrote (compacted s c))
 unfolding Says
 enough s c true h = λ z. omega arith
-enough s c false h = same-sheet s c h
+enough s c false h = (c, (h, refl))
 
 says : (s : List ℕ) (room : ℕ) (c : Checked) → checked s ≡ c → Says s (compactAs s room c)
 unfolding compactAs Says
@@ -34,12 +34,16 @@ says s room (found.Word p) h = λ z. omega arith
 says s room (found.Place p) h = λ z. omega arith
 says s room (found.Byte p) h = λ z. omega arith
 
-in-buffer : (s : List ℕ) (room : ℕ) (w : Written) → Says s w → outcomeOf w .refusal ≡ 0 → SameSheet s (take (outcomeOf w .length) (bufferWith room w))
+in-buffer : (s : List ℕ) (room : ℕ) (w : Written) → Says s w → outcomeOf w .refusal ≡ 0 → (c : Counts) × ((checked s ≡ found.Sound c) × (take (outcomeOf w .length) (bufferWith room w) ≡ compacted s c))
 unfolding outcomeOf bufferWith Says
 in-buffer s room (wrote b) k z = rw (take-append-seam b _) k
 in-buffer s room (refusal n p) k z = absurd (k z)
 
 -- any outcome and buffer that the call's two equations allow
-pub call-compacts : (s : List ℕ) (room : ℕ) (r : Outcome) (out : List ℕ) → r ≡ outcomeOf (compact s room) → out ≡ bufferWith room (compact s room) → Compacts s r out
-unfolding compact
-call-compacts s room r out e f = rw (e, f) (record { written = in-buffer s room (compactAs s room (checked s)) (says s room (checked s) refl) })
+module _ (s : List ℕ) (room : ℕ) (r : Outcome) (out : List ℕ) (e : r ≡ outcomeOf (compact s room)) (f : out ≡ bufferWith room (compact s room)) where
+  pub call-written : r .refusal ≡ 0 → (c : Counts) × ((checked s ≡ found.Sound c) × (take (r .length) out ≡ compacted s c))
+  unfolding compact
+  call-written = rw (e, f) (in-buffer s room (compactAs s room (checked s)) (says s room (checked s) refl))
+
+  pub call-compacts : Compacts s r out
+  call-compacts = record { written = λ z. let (c, (h, w)) = call-written z in rw w (same-sheet s c h) }

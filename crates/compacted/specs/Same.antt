@@ -83,6 +83,10 @@ module _ (s : List ℕ) (c : Counts) (h : Sheeted s c) where
       let stays : (at : ℕ) → at % 4 ≡ 0 → 12 < at → at < 48 → wordAt (compacted s c) at ≡ wordAt s at = λ at m u l. head-stays s c h at m l (λ o. omega arith) in
       rw (stays 20 refl (omega arith) (omega arith), stays 24 refl (omega arith) (omega arith), stays 28 refl (omega arith) (omega arith), stays 32 refl (omega arith) (omega arith), stays 36 refl (omega arith) (omega arith), stays 40 refl (omega arith) (omega arith), stays 44 refl (omega arith) (omega arith))
 
+  -- word 7, whatever it is
+  pub inline-same : wordAt (compacted s c) 28 ≡ wordAt s 28
+  inline-same = head-stays s c h 28 refl (omega arith) (λ o. omega arith)
+
   pub env-same : (room : ℕ) → envOf (compacted s c) (newCounts s c) room ≡ envOf s c room
   unfolding envOf
   env-same room = rw (options-same, params-same, keeps-same)

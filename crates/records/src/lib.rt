@@ -4,6 +4,7 @@ ghost use Prim.Native.Nat.{_+_, _*_, _≤_};
 ghost use lib.ListN.{length};
 ghost use Rattle.rules.specs.Words.{placeAt, countsOf, paramsAt, keepsAt, bodyAt};
 ghost use Rattle.rules.specs.Sheet.{indentFrom, caseFrom, inlineFrom, limitFrom, optionsOf};
+ghost use Rattle.rules.specs.Answer.{isWithdrawn};
 ghost use Rattle.records.specs.Sheeted.{Few, OptionWords};
 use rules::Case;
 use rules::Counts;
@@ -66,11 +67,10 @@ fn case_from(w: u32) -> Case
 fn inline_from(w: u32) -> Inline
     ensures { λ r. ⌜ r ≡ inlineFrom w ⌝ }
 {
-    match w {
-        0 => Inline::Off,
-        1 => Inline::On,
-        _ => Inline::Comments,
+    if w == 0 {
+        return Inline::Off;
     }
+    Inline::Comments
 }
 
 fn limit_from(w: u32) -> Limit
@@ -110,6 +110,14 @@ pub fn options_of(s: &[u8]) -> FormatOptions
         max_inline_arguments,
         max_inline_top_level,
     }
+}
+
+// Word 7 at 1 is withdrawn: no layout call takes such a sheet.
+pub fn is_withdrawn(s: &[u8]) -> bool
+    requires { ⌜ OptionWords (now s) ⌝ }
+    ensures { λ r. ⌜ r ≡ isWithdrawn (now (s .entry)) ⌝ }
+{
+    word_at(s, 28) == 1
 }
 
 // ---- the records

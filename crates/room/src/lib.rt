@@ -6,13 +6,14 @@ ghost use lib.Dec.{eqb};
 ghost use lib.ListN.{length};
 ghost use Rattle.rules.specs.declared.TokenKind.the-variants.{Whitespace};
 ghost use Rattle.rules.specs.declared.Turn.the-variants as taken;
+ghost use Rattle.rules.specs.declared.Checked.the-variants as found;
 ghost use Rattle.rules.specs.Base.{if_then_else_, same};
 ghost use Rattle.rules.specs.Tokens.{is};
 ghost use Rattle.rules.specs.Text.{lineFeeds};
 ghost use Rattle.rules.specs.Words.{bodyAt};
 ghost use Rattle.rules.specs.Sheet.{bodyPart, optionsOf, paramsOf, tokensOf};
 ghost use Rattle.rules.specs.Compacted.{refusal as unwritten, outcomeOf};
-ghost use Rattle.rules.specs.Room.{fullIndent, roomLaidOut, room as sumOf, roomFor};
+ghost use Rattle.rules.specs.Room.{fullIndent, roomLaidOut, room as sumOf, roomAs, roomFor};
 ghost use Rattle.tokens.specs.Placed.{Inside};
 ghost use Rattle.records.specs.Sheeted.{Sheeted};
 ghost use Rattle.ascii.specs.Part.{part};
@@ -22,6 +23,7 @@ use params::Entry;
 use params::Shown;
 use params::get;
 use records::body_at;
+use records::is_withdrawn;
 use records::options_of;
 use rules::Checked;
 use rules::Counts;
@@ -219,17 +221,28 @@ fn refused(number: u32, place: usize) -> Outcome
     }
 }
 
+// Of a sheet that checks 1 to 4 found sound.
+fn room_sound(sheet: &[u8], c: Counts) -> Outcome
+    requires { ⌜ Sheeted (now sheet) c ⌝ }
+    ensures { λ r. ⌜ r ≡ roomAs (now (sheet .entry)) (found.Sound c) ⌝ }
+{
+    if is_withdrawn(sheet) {
+        return refused(14, 28);
+    }
+    Outcome {
+        refusal: 0,
+        place: 0,
+        length: room(sheet, c),
+    }
+}
+
 // Of any bytes.
 pub fn room_for(sheet: &[u8]) -> Outcome
     ensures { λ r. ⌜ r ≡ roomFor (now (sheet .entry)) ⌝ }
 {
     let found = checks::check(sheet);
     match found {
-        Checked::Sound(c) => Outcome {
-            refusal: 0,
-            place: 0,
-            length: room(sheet, c),
-        },
+        Checked::Sound(c) => room_sound(sheet, c),
         Checked::Size => refused(1, 0),
         Checked::Word(p) => refused(2, p),
         Checked::Place(p) => refused(3, p),

@@ -180,7 +180,6 @@ goes-held (refused n) = record { grown = refl; kept = tt }
 goes-closing : (room : ℕ) (i : Inline) (ind : List ℕ) (t : Text) → strip ind ≡ [] → Goes t (closingLine room i ind t) []
 unfolding closingLine
 goes-closing room inline.Off ind t w = goes-line room false ind t w
-goes-closing room inline.On ind t w = goes-line room true ind t w
 goes-closing room inline.Comments ind t w = let fed : Text = lineFeed room (cutBlanks t) in goes-then t fed (hold fed) [] [] (goes-fed room t) (goes-held fed)
 
 closes : (e : Env) {s : State} → Adds s (closeLineComment e s) []

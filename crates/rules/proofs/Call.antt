@@ -1,5 +1,6 @@
 -- Demand 3 for the layout call: in terms of its own answer and buffer. Assumes nothing.
 use mathlib.Core.Path.{_≡_}
+use mathlib.Core.Bool.{Bool, true, false}
 use mathlib.Core.List.{List}
 use Prim.Native.Nat.{ℕ}
 use native.Mathlib.Omega.{arith}
@@ -8,19 +9,24 @@ use lib.Seq.{take-append-seam}
 use Rattle.rules.specs.declared.Checked.{Checked}
 use Rattle.rules.specs.declared.Checked.the-variants as found
 use Rattle.rules.specs.declared.Report.{Report}
+use Rattle.rules.specs.Base.{if_then_else_}
 use Rattle.rules.specs.Checks.{checked}
 use Rattle.rules.specs.Sheet.{envOf, tokensOf}
-use Rattle.rules.specs.Answer.{Answer, laid, refusal, answerAs, answer, reportOf, bufferOf, reported, bufferAfter}
+use Rattle.rules.specs.Answer.{Answer, laid, refusal, format, isWithdrawn, answerAs, answer, reportOf, bufferOf, reported, bufferAfter}
 use Rattle.rules.specs.Due.{strip, dueIn, dueOf, Faithful}
 use Rattle.rules.proofs.Keeps.{StripsTo, keeps}
 
 pub by-checked : (s : List ℕ) (room : ℕ) (c : Checked) → StripsTo (answerAs s room c) (dueIn s c)
 unfolding answerAs dueIn envOf
-by-checked s room (found.Sound c) = keeps (envOf s c room) (tokensOf s c)
-by-checked s room found.Size = (omega arith, omega arith)
-by-checked s room (found.Word p) = (omega arith, omega arith)
-by-checked s room (found.Place p) = (omega arith, omega arith)
-by-checked s room (found.Byte p) = (omega arith, omega arith)
+by-checked s room (found.Sound c) = go (isWithdrawn s)
+  where
+    go : (b : Bool) → StripsTo (if b then refusal 14 28 else format (envOf s c room) (tokensOf s c)) (dueIn s (found.Sound c))
+    go true = (omega arith, λ h. omega arith)
+    go false = keeps (envOf s c room) (tokensOf s c)
+by-checked s room found.Size = (omega arith, λ h. omega arith)
+by-checked s room (found.Word p) = (omega arith, λ h. omega arith)
+by-checked s room (found.Place p) = (omega arith, λ h. omega arith)
+by-checked s room (found.Byte p) = (omega arith, λ h. omega arith)
 
 pub in-buffer : (a : Answer) (room : ℕ) (v : List ℕ) → StripsTo a v → reportOf a .refusal ≡ 0 → strip (take (reportOf a .length) (bufferOf room a)) ≡ v
 unfolding reportOf bufferOf

@@ -12,12 +12,13 @@ use Rattle.rules.specs.declared.Checked.the-variants as found
 use Rattle.rules.specs.Base.{if_then_else_}
 use Rattle.rules.specs.Tokens.{Token, Here}
 use Rattle.rules.specs.Checks.{checked}
-use Rattle.rules.specs.Sheet.{Env, QueryParams, envOf, tokensOf}
+use Rattle.rules.specs.Sheet.{Env, QueryParams, optionsOf, paramsOf, envOf, tokensOf}
 use Rattle.rules.specs.Text.{Text, fits, refused, bytesIn}
 use Rattle.rules.specs.Switch.{Switch, turnOf, switchAfter, switchedOn}
 use Rattle.rules.specs.State.{State, start}
 use Rattle.rules.specs.Indentation.{noIndentation}
-use Rattle.rules.specs.Answer.{Answer, laid, refusal, report, unlessRefused, finish, taken, formatFrom, format, answerAs, answer}
+use Rattle.rules.specs.Answer.{Answer, laid, refusal, report, unlessRefused, finish, taken, formatFrom, format, isWithdrawn, answerAs, answer}
+use Rattle.rules.specs.Compacted.{refusal as unwritten, outcomeOf}
 use Rattle.rules.specs.Rows.{isShort, listedAs, listed}
 use Rattle.rules.specs.Room.{counterAfter, roomOf, roomFrom, room, roomAs, roomFor}
 use Rattle.rules.specs.RoomRun.{textsFrom, texts, textAfter, answerFrom, NotNine, withRoom, triesFrom, triedAt}
@@ -162,8 +163,12 @@ without-nine e n (laid b l w) h r = tt
 without-nine e n (refusal k p) h r = h r
 
 checked-no-nine : (s : List ℕ) (n : ℕ) (c : Checked) → roomAs s c .length ≤ n → NoNine (answerAs s n c)
-unfolding roomAs answerAs envOf
-checked-no-nine s n (found.Sound c) l = without-nine (envOf s c n) _ _ (enough (envOf s c n) (tokensOf s c)) l
+unfolding roomAs answerAs envOf outcomeOf
+checked-no-nine s n (found.Sound c) l = go (isWithdrawn s) l
+  where
+    go : (b : Bool) → (if b then outcomeOf (unwritten 14 28) else record { refusal = 0; place = 0; length = room (optionsOf s) (paramsOf s c) (tokensOf s c) }) .length ≤ n → NoNine (if b then refusal 14 28 else format (envOf s c n) (tokensOf s c))
+    go true h = λ z. omega arith
+    go false h = without-nine (envOf s c n) _ _ (enough (envOf s c n) (tokensOf s c)) h
 checked-no-nine s n found.Size l = λ h. omega arith
 checked-no-nine s n (found.Word p) l = λ h. omega arith
 checked-no-nine s n (found.Place p) l = λ h. omega arith

@@ -94,7 +94,6 @@ module _ {room : ℕ} where
   closing-more : (i : Inline) (ind : List ℕ) {n : ℕ} → length ind ≤ n → (t : Text) → Longer room t (closingLine room i ind t) (1 + n)
   unfolding closingLine
   closing-more inline.Off ind l t = line-more false ind l t
-  closing-more inline.On ind l t = line-more true ind l t
   closing-more inline.Comments ind {n} l t = upTo (1 + n) (omega arith) (cut-less isBlank t next feed-more _ next hold-same _)
 
 -- ---- from a state to the next: the text, and the stack stays in its bound

@@ -3,7 +3,7 @@ use mathlib.Core.Path.{_≡_, refl, sym, ap, subst, _∙_}
 use mathlib.Core.Bool.{Bool, true, false}
 use mathlib.Core.Option.{Option, none, some}
 use mathlib.Core.List.{List, [], _∷_, _++_, append-assoc, append-nil}
-use Prim.Native.Nat.{ℕ, suc}
+use Prim.Native.Nat.{ℕ, suc, _≤_}
 use native.Mathlib.Omega.{arith}
 use lib.ListN.{length}
 use Rattle.rules.specs.declared.TokenKind.{TokenKind}
@@ -186,16 +186,16 @@ lays-step e h before s sync on false = rw (switch-is (h .token .kind) (h .token 
 
 -- ---- the whole
 
--- a text that is laid out strips to v; a refusal has a number
+-- a text that is laid out strips to v; a refusal has a number, and it is not that of the list
 abbrev pub StripsTo : Answer → List ℕ → Type 0
 StripsTo (laid b l w) v = strip b ≡ v
-StripsTo (refusal n p) v = Adds.Numbered n
+StripsTo (refusal n p) v = (1 ≤ n) × (n ≡ 10 → ⊥)
 
 -- one step and the rest: d is added by the step, r by the rest
 keeps-next : (x : Text) (place : ℕ) (rest : Answer) (k m : ℕ) (a d r : List ℕ) → Adds.Grown (fits k m a) x d → ((l n : ℕ) (c : List ℕ) → x ≡ fits l n c → StripsTo rest (strip c ++ r)) → StripsTo (unlessRefused x place rest) (strip a ++ (d ++ r))
 unfolding unlessRefused
 keeps-next (fits l n c) place rest k m a d r g ih = rw (← append-assoc (strip a) d r, ← g) (ih l n c refl)
-keeps-next (refused n) place rest k m a d r g ih = g
+keeps-next (refused n) place rest k m a d r g ih = let l = g .1 in (g .0, λ h. omega arith)
 
 keeps-from : (e : Env) (before ts : List Token) (past : List Piece) (w : Switch) (s : State) (k m : ℕ) (a : List ℕ) → s .text ≡ fits k m a → s .index ≡ counter (e .params) past
     → StripsTo (formatFrom e before ts w s) (strip a ++ dueBy e past (keptAfter w ts))

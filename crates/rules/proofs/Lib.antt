@@ -14,6 +14,7 @@ pub mod Short
 pub mod Inner
 pub mod Nested
 pub mod Call
+pub mod Withdrawn
 pub mod Sourced
 pub mod Listed
 pub mod Tables

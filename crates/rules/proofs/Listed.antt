@@ -16,11 +16,11 @@ use Rattle.rules.specs.declared.Report.{Report}
 use Rattle.rules.specs.Base.{if_then_else_}
 use Rattle.rules.specs.Checks.{checked}
 use Rattle.rules.specs.Sheet.{paramsOf, envOf, tokensOf}
-use Rattle.rules.specs.Answer.{Answer, laid, refusal, answerAs, answer, reportOf, bufferOf, reported, bufferAfter}
+use Rattle.rules.specs.Answer.{Answer, laid, refusal, format, isWithdrawn, answerAs, answer, reportOf, bufferOf, reported, bufferAfter}
 use Rattle.rules.specs.Due.{strip, dueIn, dueOf, Faithful}
-use Rattle.rules.specs.Rows.{Row, rows, rowWords, rowsWords, placeholders, isShort, listedAs, listed, listedReport, listedBuffer, listFor, listAs, listAfter}
+use Rattle.rules.specs.Rows.{Row, rows, rowWords, rowsWords, placeholders, toLayOut, isShort, listedAs, listed, listedReport, listedBuffer, listFor, listAs, listAfter}
 use Rattle.rules.specs.Shown.{Shown, shown, shownIn, shownOf, dueToIn, dueTo, Lists, Pointed}
-use Rattle.rules.proofs.Keeps.{StripsTo}
+use Rattle.rules.proofs.Keeps.{StripsTo, keeps}
 use Rattle.rules.proofs.Call.{by-checked, in-buffer}
 use Rattle.rules.proofs.Rows.{PlacedIn, rows-placed, rows-count, shown-count}
 
@@ -31,8 +31,12 @@ position n = omega arith
 -- ---- refusal 10
 
 short-is : (s : List ℕ) (k : ℕ) (c : Checked) → isShort s k c ≡ ltb k (5 * length (shownIn s c))
-unfolding isShort shownIn
-short-is s k (found.Sound c) = rw (shown-count (paramsOf s c) (tokensOf s c))
+unfolding isShort shownIn toLayOut
+short-is s k (found.Sound c) = go (isWithdrawn s)
+  where
+    go : (b : Bool) → ltb k (5 * (if b then 0 else placeholders (tokensOf s c))) ≡ ltb k (5 * length (if b then [] else shown (paramsOf s c) (tokensOf s c)))
+    go true = refl
+    go false = rw (shown-count (paramsOf s c) (tokensOf s c))
 short-is s k found.Size = sym (le-ltb k 0 (omega arith))
 short-is s k (found.Word p) = sym (le-ltb k 0 (omega arith))
 short-is s k (found.Place p) = sym (le-ltb k 0 (omega arith))
@@ -42,7 +46,7 @@ short-is s k (found.Byte p) = sym (le-ltb k 0 (omega arith))
 not-ten : (a : Answer) (v : List ℕ) → StripsTo a v → reportOf a .refusal ≡ 10 → ⊥
 unfolding reportOf
 not-ten (laid b l w) v p e = omega arith
-not-ten (refusal n q) v p e = let h = p .1 in omega arith
+not-ten (refusal n q) v p e = p .1 e
 
 module _ (s : List ℕ) (room k : ℕ) where
   ten-short : listedReport s room k .refusal ≡ 10 → k < 5 * length (shownOf s)
@@ -106,21 +110,22 @@ for-length k rs (refusal n p) h = length-replicate k 0
 abbrev rowsIn : List ℕ → ℕ → Counts → List Row
 rowsIn s room c = rows (envOf s c room) (tokensOf s c)
 
-enough : (s : List ℕ) (room k : ℕ) (c : Counts) → isShort s k (found.Sound c) ≡ false → 5 * length (rowsIn s room c) ≤ k
-unfolding isShort
-enough s room k c h = rw (rows-count (envOf s c room) (tokensOf s c)) (ltb-false k (5 * placeholders (tokensOf s c)) h)
+enough : (s : List ℕ) (room k : ℕ) (c : Counts) → isWithdrawn s ≡ false → isShort s k (found.Sound c) ≡ false → 5 * length (rowsIn s room c) ≤ k
+unfolding isShort toLayOut
+enough s room k c w h = rw (rows-count (envOf s c room) (tokensOf s c)) (ltb-false k (5 * placeholders (tokensOf s c)) (rw w at h))
 
 as-length : (s : List ℕ) (room k : ℕ) (c : Checked) → length (listAs s room k c) ≡ k
-unfolding listAs listedAs listFor
+unfolding listAs listedAs listFor answerAs
 as-length s room k found.Size = length-replicate k 0
 as-length s room k (found.Word p) = length-replicate k 0
 as-length s room k (found.Place p) = length-replicate k 0
 as-length s room k (found.Byte p) = length-replicate k 0
-as-length s room k (found.Sound c) = go (isShort s k (found.Sound c)) refl
+as-length s room k (found.Sound c) = go (isShort s k (found.Sound c)) (isWithdrawn s) refl refl
   where
-    go : (f : Bool) → isShort s k (found.Sound c) ≡ f → length (listFor k (rowsIn s room c) (if f then refusal 10 0 else answerAs s room (found.Sound c))) ≡ k
-    go true h = length-replicate k 0
-    go false h = for-length k (rowsIn s room c) (answerAs s room (found.Sound c)) (enough s room k c h)
+    go : (f b : Bool) → isShort s k (found.Sound c) ≡ f → isWithdrawn s ≡ b → length (listFor k (rowsIn s room c) (if f then refusal 10 0 else if b then refusal 14 28 else format (envOf s c room) (tokensOf s c))) ≡ k
+    go true b h w = length-replicate k 0
+    go false true h w = length-replicate k 0
+    go false false h w = for-length k (rowsIn s room c) (format (envOf s c room) (tokensOf s c)) (enough s room k c w h)
 
 pub list-length : (s : List ℕ) (room k : ℕ) → length (listAfter s room k) ≡ k
 unfolding listAfter
@@ -162,19 +167,20 @@ lists to room k xs rs (laid b l w) v n p e h z =
 lists to room k xs rs (refusal n q) v p o e h z = absurd (let m = p .0 in omega arith)
 
 as-lists : (s : List ℕ) (room k : ℕ) (c : Checked) → let a = listedAs s room k c in reportOf a .refusal ≡ 0 → Lists (dueToIn s c) (shownIn s c) (take (reportOf a .length) (bufferOf room a)) (listAs s room k c)
-unfolding listAs listedAs answerAs shownIn dueToIn reportOf isShort envOf
+unfolding listAs listedAs answerAs shownIn dueToIn dueIn reportOf isShort envOf
 as-lists s room k found.Size z = absurd (omega arith)
 as-lists s room k (found.Word p) z = absurd (omega arith)
 as-lists s room k (found.Place p) z = absurd (omega arith)
 as-lists s room k (found.Byte p) z = absurd (omega arith)
-as-lists s room k (found.Sound c) z = go (isShort s k (found.Sound c)) refl z
+as-lists s room k (found.Sound c) z = go (isShort s k (found.Sound c)) (isWithdrawn s) refl refl z
   where
-    go : (f : Bool) → isShort s k (found.Sound c) ≡ f → let a = if f then refusal 10 0 else answerAs s room (found.Sound c) in reportOf a .refusal ≡ 0
-        → Lists (dueToIn s (found.Sound c)) (shownIn s (found.Sound c)) (take (reportOf a .length) (bufferOf room a)) (listFor k (rowsIn s room c) a)
-    go true h z = absurd (omega arith)
-    go false h z =
-        lists (dueToIn s (found.Sound c)) room k (shown (paramsOf s c) (tokensOf s c)) (rowsIn s room c) (answerAs s room (found.Sound c)) (dueIn s (found.Sound c)) (by-checked s room (found.Sound c)) (rows-placed (envOf s c room) (tokensOf s c))
-        (shown-count (paramsOf s c) (tokensOf s c) ∙ sym (rows-count (envOf s c room) (tokensOf s c))) (enough s room k c h) z
+    go : (f b : Bool) → isShort s k (found.Sound c) ≡ f → isWithdrawn s ≡ b → let a = if f then refusal 10 0 else if b then refusal 14 28 else format (envOf s c room) (tokensOf s c) in reportOf a .refusal ≡ 0
+        → Lists (dueToIn s (found.Sound c)) (if b then [] else shown (paramsOf s c) (tokensOf s c)) (take (reportOf a .length) (bufferOf room a)) (listFor k (rowsIn s room c) a)
+    go true b h w z = absurd (omega arith)
+    go false true h w z = absurd (omega arith)
+    go false false h w z =
+        lists (dueToIn s (found.Sound c)) room k (shown (paramsOf s c) (tokensOf s c)) (rowsIn s room c) (format (envOf s c room) (tokensOf s c)) (dueIn s (found.Sound c)) (keeps (envOf s c room) (tokensOf s c)) (rows-placed (envOf s c room) (tokensOf s c))
+        (shown-count (paramsOf s c) (tokensOf s c) ∙ sym (rows-count (envOf s c room) (tokensOf s c))) (enough s room k c w h) z
 
 pub list-pointed : (s : List ℕ) (room k : ℕ) → Pointed s (listedReport s room k) (listedBuffer s room k) (listAfter s room k)
 unfolding listedReport listedBuffer listed listAfter shownOf dueTo

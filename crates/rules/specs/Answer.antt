@@ -1,14 +1,18 @@
 -- The whole: from any bytes and any buffer length to the answer, and to the bytes that the buffer holds afterwards.
+use mathlib.Core.Bool.{Bool}
 use mathlib.Core.List.{List, [], _∷_, _++_}
 use Prim.Native.Nat.{ℕ, _-_}
+use lib.Dec.{eqb}
 use lib.ListN.{length, replicate}
 use Rattle.rules.specs.declared.Turn.{Turn}
 use Rattle.rules.specs.declared.Turn.the-variants as turn
 use Rattle.rules.specs.declared.Checked.{Checked}
 use Rattle.rules.specs.declared.Checked.the-variants as found
 use Rattle.rules.specs.declared.Report.{Report}
+use Rattle.rules.specs.Base.{if_then_else_}
 use Rattle.rules.specs.Tokens.{Token, Here}
 use Rattle.rules.specs.Text.{Text, fits, refused, mark, bytesIn, trimmed, lines, width}
+use Rattle.rules.specs.Words.{wordAt}
 use Rattle.rules.specs.Checks.{checked}
 use Rattle.rules.specs.Sheet.{Env, envOf, tokensOf}
 use Rattle.rules.specs.Switch.{Switch, turnOf, switchAfter, switchedOn}
@@ -58,8 +62,13 @@ format e ts = formatFrom e [] ts switchedOn start
 
 -- ---- the answer
 
+-- word 7 at 1 is withdrawn: no layout call takes such a sheet
+unfoldable pub isWithdrawn : List ℕ → Bool
+isWithdrawn s = eqb (wordAt s 28) 1
+
+-- refusal 14 comes after 4 and before all others
 unfoldable pub answerAs : List ℕ → ℕ → Checked → Answer
-answerAs s room (found.Sound c) = format (envOf s c room) (tokensOf s c)
+answerAs s room (found.Sound c) = if isWithdrawn s then refusal 14 28 else format (envOf s c room) (tokensOf s c)
 answerAs s room found.Size = refusal 1 0
 answerAs s room (found.Word p) = refusal 2 p
 answerAs s room (found.Place p) = refusal 3 p

@@ -37,10 +37,10 @@ fed = L "-- c\n" ∷ []
 abbrev pub commented : List Sample
 commented =
     plain (inlineAt 0) typed ample (text "a -- c::t" 1 9)
-    ∷ plain (inlineAt 1) typed ample (text "a -- c::t" 1 9)
+    ∷ plain (inlineAt 1) typed ample (refusal 14 28)
     ∷ plain (inlineAt 2) typed ample (text "a -- c\n::t" 2 6)
     ∷ plain (inlineAt 2) (W "a" ∷ L "-- c" ∷ T "FROM" ∷ W "x" ∷ []) ample (text "a -- c\n FROM x" 2 7)
-    ∷ plain (inlineAt 1) fed 5 (refusal 9 0)
+    ∷ plain (inlineAt 1) fed 0 (refusal 14 28)
     ∷ plain (inlineAt 2) fed 5 (text "-- c" 1 4)
     ∷ plain (inlineAt 2) (W "a" ∷ tok kind.Operator ";" ∷ L "" ∷ typeT ∷ []) ample (text "a;\n::t" 2 3)
     ∷ plain (inlineAt 2) (L "" ∷ W "a" ∷ []) ample (text "a" 1 1)

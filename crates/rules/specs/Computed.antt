@@ -14,8 +14,8 @@ use Rattle.rules.specs.Params.{byName, byNumber, byIndex, source, valueI
 use Rattle.rules.specs.Switch.{_↪_, fmtTable, movedBy, movedTo, moved, readAll, answered as switchAnswered, checkFmtOff, switchIn, turnBy, turnOf, switchAfter, switchedOn}
 use Rattle.rules.specs.State.{start, onText, onIndentation, onInlineBlock, onBlockLevel, onIndex, refuseIf, pushStr, push, trimSpacesEnd, trimAllSpacesEnd, oneBlank, getIndent, addNewLineInner, addNewLine, closeLineComment, increaseTopLevel}
 use Rattle.rules.specs.Formatter.{caseFor, formatReservedWord, pushReserved, kindIs, kindIn, notWhite, previousToken, previousNonWhitespaceToken, nextNonWhitespaceToken, spanInfo, whiteThenNoOperator, afterLineFeed, twoAfterComma, formatLineComment, formatTypeSpecifier, formatBlockComment, newTopLine, formatTopLevelReservedWord, formatTopLevelReservedWordNoIndent, newlineBefore, formatNewlineAfterReservedWord, overLimit, indentInlined, afterLineComment, formatNewlineReservedWord, formatReserved, formatWithSpaces, formatWithSpaceAfter, formatWithoutSpaces, formatNoChange, foldsIn, cutsBefore, blankBetween, formatOpeningParentheses, formatClosingParentheses, formatPlaceholder, spanWithin, commaBreaks, formatComma, formatQuerySeparator, formatByValue, formatToken}
-use Rattle.rules.specs.Answer.{Answer, takenAs, report, unlessRefused, finish, taken, formatFrom, format, answerAs, answer, reportOf, bufferOf, reported, bufferAfter}
-use Rattle.rules.specs.Rows.{between, clip, shift, laysOut, rowOf, rowsAfter, trimRow, rowsFrom, rows, placeholdersFrom, placeholders, entryWord, rowWords, rowsWords, isShort, listedAs, listed, listedReport, listedBuffer, listFor, listAs, listAfter}
+use Rattle.rules.specs.Answer.{Answer, takenAs, report, unlessRefused, finish, taken, formatFrom, format, isWithdrawn, answerAs, answer, reportOf, bufferOf, reported, bufferAfter}
+use Rattle.rules.specs.Rows.{between, clip, shift, laysOut, rowOf, rowsAfter, trimRow, rowsFrom, rows, placeholdersFrom, placeholders, entryWord, rowWords, rowsWords, toLayOut, isShort, listedAs, listed, listedReport, listedBuffer, listFor, listAs, listAfter}
 use Rattle.rules.specs.Base.{choose, when, full}
 
 pub record Sample : Type 0 where
@@ -49,7 +49,7 @@ unfolding
     formatTopLevelReservedWordNoIndent newlineBefore formatNewlineAfterReservedWord overLimit indentInlined afterLineComment formatNewlineReservedWord
     formatReserved formatWithSpaces formatWithSpaceAfter formatWithoutSpaces formatNoChange foldsIn cutsBefore blankBetween formatOpeningParentheses
     formatClosingParentheses formatPlaceholder spanWithin commaBreaks formatComma formatQuerySeparator formatByValue formatToken
-    takenAs report unlessRefused finish taken formatFrom format answerAs answer reportOf bufferOf reported bufferAfter
+    takenAs report unlessRefused finish taken formatFrom format isWithdrawn answerAs answer reportOf bufferOf reported bufferAfter
 computed s room = answer s room
 
 abbrev pub given : Sample → Answer
@@ -60,5 +60,5 @@ unfoldable pub computedList : List ℕ → ℕ → ℕ → List ℕ
 unfolding
     computed
     between clip shift laysOut rowOf rowsAfter trimRow rowsFrom rows placeholdersFrom placeholders
-    entryWord rowWords rowsWords isShort listedAs listed listedReport listedBuffer listFor listAs listAfter
+    entryWord rowWords rowsWords toLayOut isShort listedAs listed listedReport listedBuffer listFor listAs listAfter
 computedList s room k = listAfter s room k

@@ -91,7 +91,7 @@ sourced =
     ∷ listing (calling "b" "c") (zeroBased 0 ∷ []) 5 (text "?" 1 1) (row 0 unset 0 1)
     ∷ []
 
--- the switch alone decides which have a row; 10 comes after 2 and before 5
+-- the switch alone decides which have a row; 10 comes after 2 and 14 and before 5
 abbrev pub switched : List Listing
 switched =
     listing (indexed ("7" ∷ [])) sheet6 5 (text "?x7" 1 3) (row 6 0 2 1)
@@ -99,6 +99,7 @@ switched =
     ∷ listing (indexed ("7" ∷ [])) (oneBased 0 ∷ P "?" ∷ []) 9 (refusal 10 0) (replicate 9 0)
     ∷ listing (indexed ("7" ∷ [])) (P "?" ∷ oneBased 0 ∷ []) 10 (refusal 5 1) (replicate 10 0)
     ∷ record { sheet = encode (options 3 50 unset) None [] (P "?" ∷ []); words = 4; wanted = record { answer = refusal 2 24; list = replicate 4 0 } }
+    ∷ record { sheet = encode (2 ∷ 0 ∷ 1 ∷ 1 ∷ 50 ∷ unset ∷ unset ∷ []) None [] (P "?" ∷ []); words = 4; wanted = record { answer = refusal 14 28; list = replicate 4 0 } }
     ∷ []
 
 abbrev pub pointing : List Listing

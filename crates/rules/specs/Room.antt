@@ -20,6 +20,7 @@ use Rattle.rules.specs.Sheet.{QueryParams, optionsOf, paramsOf, tokensOf
 use Rattle.rules.specs.Text.{lineFeeds}
 use Rattle.rules.specs.Params.{get, advances}
 use Rattle.rules.specs.Switch.{Switch, turnOf, switchAfter, switchedOn}
+use Rattle.rules.specs.Answer.{isWithdrawn}
 use Rattle.rules.specs.Rows.{laysOut}
 use Rattle.rules.specs.Compacted.{refusal, outcomeOf}
 
@@ -63,7 +64,7 @@ room o ps ts = roomFrom o ps switchedOn 0 ts
 -- ---- the call
 
 unfoldable pub roomAs : List ℕ → Checked → Outcome
-roomAs s (found.Sound c) = record { refusal = 0; place = 0; length = room (optionsOf s) (paramsOf s c) (tokensOf s c) }
+roomAs s (found.Sound c) = if isWithdrawn s then outcomeOf (refusal 14 28) else record { refusal = 0; place = 0; length = room (optionsOf s) (paramsOf s c) (tokensOf s c) }
 roomAs s found.Size = outcomeOf (refusal 1 0)
 roomAs s (found.Word p) = outcomeOf (refusal 2 p)
 roomAs s (found.Place p) = outcomeOf (refusal 3 p)

@@ -47,14 +47,13 @@ nought v = record { kind = kind.Placeholder; value = bytes v; key = oneIndexed (
 abbrev toLast : List Token
 toLast = comment "-- fmt: on" ∷ W "," ∷ S " " ∷ comment "--" ∷ []
 
--- the indent, and word 7 at its three values
+-- the indent, and word 7 at its two values
 abbrev pub indented : List Needed
 indented =
     needs default None [] 0
     ∷ needs default None (W "a" ∷ []) 516
     ∷ needs (head 256 0 1) None (W "a" ∷ []) 260
     ∷ needs flat None (W "a" ∷ []) 4
-    ∷ needs (head 2 1 1) None (W "a" ∷ []) 516
     ∷ needs (head 2 2 1) None (W "a" ∷ []) 516
     ∷ needs default None sheet3 2077
     ∷ []
@@ -88,12 +87,14 @@ switched =
     ∷ needs flat None toLast 5
     ∷ []
 
--- refusals 1 to 4 give 0, with the refusal beside it
+-- refusals 1 to 4 and 14 give 0, with the refusal beside it
 abbrev pub faulty : List Needed
 faulty =
     refusedAt [] 1 0
     ∷ refusedAt (encode (options 3 50 unset) None [] (W "a" ∷ [])) 2 24
     ∷ refusedAt (encode default None [] (W "aé" ∷ [])) 4 69
+    ∷ refusedAt (encode (head 2 1 1) None [] (W "a" ∷ [])) 14 28
+    ∷ refusedAt (encode (head 2 1 1) None [] (W "aé" ∷ [])) 4 69
     ∷ []
 
 abbrev pub rooms : List Needed
@@ -109,14 +110,12 @@ pub rooms-right : map counted rooms ≡ map due rooms
 unfolding computed laysOut outcomeOf fullIndent roomLaidOut shownBy roomOf counterAfter roomFrom room roomAs roomFor encode
 rooms-right = refl
 
--- ---- the sum can be needed to the last byte, at any value of word 7: two blanks, `--`, and a line feed or a blank
+-- ---- the sum can be needed to the last byte, at either value of word 7: two blanks, `--`, and a line feed or a blank
 
 abbrev pub tight : List Sample
 tight =
     plain flat toLast 5 (text "--" 1 2)
     ∷ plain flat toLast 4 (refusal 9 3)
-    ∷ plain (head 0 1 1) toLast 5 (text "--" 1 2)
-    ∷ plain (head 0 1 1) toLast 4 (refusal 9 3)
     ∷ plain (head 0 2 1) toLast 5 (text "--" 1 2)
     ∷ plain (head 0 2 1) toLast 4 (refusal 9 3)
     ∷ []

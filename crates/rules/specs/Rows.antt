@@ -9,6 +9,7 @@ use Rattle.rules.specs.declared.TokenKind.{TokenKind}
 use Rattle.rules.specs.declared.TokenKind.the-variants as kind
 use Rattle.rules.specs.declared.Turn.{Turn}
 use Rattle.rules.specs.declared.Turn.the-variants as turn
+use Rattle.rules.specs.declared.Counts.{Counts}
 use Rattle.rules.specs.declared.Checked.{Checked}
 use Rattle.rules.specs.declared.Checked.the-variants as found
 use Rattle.rules.specs.declared.Report.{Report}
@@ -20,7 +21,7 @@ use Rattle.rules.specs.Params.{source, get}
 use Rattle.rules.specs.Sheet.{Env, envOf, tokensOf}
 use Rattle.rules.specs.Switch.{Switch, turnOf, switchAfter, switchedOn}
 use Rattle.rules.specs.State.{State, start}
-use Rattle.rules.specs.Answer.{Answer, laid, refusal, taken, answerAs, reportOf, bufferOf}
+use Rattle.rules.specs.Answer.{Answer, laid, refusal, taken, isWithdrawn, answerAs, reportOf, bufferOf}
 
 -- a placeholder's token and entry (none: its own value was shown), the bytes before it, and how many of its bytes are there
 pub record Row : Type 0 where
@@ -104,9 +105,13 @@ rowsWords (r ∷ rs) = rowsWords rs ++ rowWords r
 
 -- ---- the call with a list of k words
 
--- refusal 10: fewer than five words for each placeholder to be laid out
+-- the placeholders to be laid out: of a sheet that is withdrawn none
+unfoldable pub toLayOut : List ℕ → Counts → ℕ
+toLayOut s c = if isWithdrawn s then 0 else placeholders (tokensOf s c)
+
+-- refusal 10: fewer than five words for each of them
 unfoldable pub isShort : List ℕ → ℕ → Checked → Bool
-isShort s k (found.Sound c) = ltb k (5 * placeholders (tokensOf s c))
+isShort s k (found.Sound c) = ltb k (5 * toLayOut s c)
 isShort s k found.Size = false
 isShort s k (found.Word p) = false
 isShort s k (found.Place p) = false

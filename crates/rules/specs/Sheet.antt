@@ -38,8 +38,9 @@ indentFrom w = if eqb w 256 then indent.Tabs else indent.Spaces w
 unfoldable pub caseFrom : ℕ → Case
 caseFrom w = getD (case.AsIs ∷ case.Upper ∷ []) w case.Lower
 
+-- 1 is withdrawn (refusal 14); it reads as the 2 that it is converted to
 unfoldable pub inlineFrom : ℕ → Inline
-inlineFrom w = getD (inline.Off ∷ inline.On ∷ []) w inline.Comments
+inlineFrom w = if eqb w 0 then inline.Off else inline.Comments
 
 unfoldable pub limitFrom : ℕ → Limit
 limitFrom w = if eqb w 4294967295 then limit.None else limit.Some w

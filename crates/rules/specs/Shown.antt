@@ -10,12 +10,13 @@ use Rattle.rules.specs.declared.TokenKind.the-variants as kind
 use Rattle.rules.specs.declared.Checked.{Checked}
 use Rattle.rules.specs.declared.Checked.the-variants as found
 use Rattle.rules.specs.declared.Report.{Report}
-use Rattle.rules.specs.Base.{when, nth?, orElse}
+use Rattle.rules.specs.Base.{if_then_else_, when, nth?, orElse}
 use Rattle.rules.specs.Tokens.{Token, is}
 use Rattle.rules.specs.Checks.{checked}
 use Rattle.rules.specs.Sheet.{QueryParams, optionsOf, paramsOf, keepsOf, tokensOf}
 use Rattle.rules.specs.Params.{source, valueAt, valueFrom, advances}
 use Rattle.rules.specs.Switch.{Switch, turnOf, switchAfter, switchedOn}
+use Rattle.rules.specs.Answer.{isWithdrawn}
 use Rattle.rules.specs.Rows.{Row, laysOut, rowsWords}
 use Rattle.rules.specs.Due.{strip, due}
 
@@ -44,9 +45,9 @@ shownFrom ps n i w (t ∷ ts) xs =
 unfoldable pub shown : QueryParams → List Token → List Shown
 shown ps ts = shownFrom ps 0 0 switchedOn ts []
 
--- of a sheet that checks 1 to 4 pass; of another, none
+-- of a sheet that checks 1 to 4 pass and that is not withdrawn; of another, none
 unfoldable pub shownIn : List ℕ → Checked → List Shown
-shownIn s (found.Sound c) = shown (paramsOf s c) (tokensOf s c)
+shownIn s (found.Sound c) = if isWithdrawn s then [] else shown (paramsOf s c) (tokensOf s c)
 shownIn s found.Size = []
 shownIn s (found.Word p) = []
 shownIn s (found.Place p) = []

@@ -176,7 +176,6 @@ bytesIn (refused n) = []
 
 abbrev pub isOn : Inline → Bool
 isOn inline.Off = false
-isOn inline.On = true
 isOn inline.Comments = true
 
 -- blanks and tabs are cut; then one blank where all is inline, else a line feed unless there is one, and the indent
@@ -185,8 +184,7 @@ newLine room on ind w =
     if on then w ▹ cutBlanks ▹ append room (32 ∷ [])
     else w ▹ cutBlanks ▹ lineFeed room ▹ append room ind
 
--- the new line that closes a line comment: with `Comments` a line feed unless there is one, no indent, and the line feed is held
+-- the new line that closes a line comment: on one line a line feed unless there is one, no indent, and the line feed is held
 unfoldable pub closingLine : ℕ → Inline → List ℕ → Text → Text
 closingLine room inline.Off ind w = newLine room false ind w
-closingLine room inline.On ind w = newLine room true ind w
 closingLine room inline.Comments ind w = w ▹ cutBlanks ▹ lineFeed room ▹ hold

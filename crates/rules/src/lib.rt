@@ -67,10 +67,9 @@ pub enum Case {
     Lower,
 }
 
-// Whether all goes on one line. `Comments`: as `On`, but a line comment is closed by a line feed.
+// Whether all goes on one line, but for a line feed after each line comment.
 pub enum Inline {
     Off,
-    On,
     Comments,
 }
 

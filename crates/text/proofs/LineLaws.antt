@@ -88,10 +88,6 @@ module _ {cap : ℕ} (w : Text) {u : Code} {r : List ℕ} (ind : List ℕ) (i : 
   unfolding closingLine
   by-closed-out h q = rw h q
 
-  pub by-closed-in : i ≡ inline.On → Laid cap (newLine cap true ind w) u r → Laid cap (closingLine cap i ind w) u r
-  unfolding closingLine
-  by-closed-in h q = rw h q
-
   pub by-closed-held : i ≡ inline.Comments → Laid cap (hold (lineFeed cap (cutBlanks w))) u r → Laid cap (closingLine cap i ind w) u r
   unfolding closingLine
   by-closed-held h q = rw h q

@@ -328,7 +328,6 @@ pub fn is_on(inline: Inline) -> bool
 {
     match inline {
         Inline::Off => false,
-        Inline::On => true,
         Inline::Comments => true,
     }
 }
@@ -350,7 +349,6 @@ pub fn closing_line(text: &mut [u8], t: Text, inline: Inline, indent: Indent, le
 {
     match inline {
         Inline::Off => new_line(text, t, false, indent, level),
-        Inline::On => new_line(text, t, true, indent, level),
         Inline::Comments => held_line(text, t),
     }
 }

@@ -30,6 +30,6 @@ room-enough s r e = record { never-nine = λ n l. never n (rw e at l) }
         record {
           plain = sheet-never-nine s n l;
           with-list = λ k. listed-never-nine s n k l;
-          with-table = λ m p. once-nine (lacksTable m (checked s)) (answer s n) p (sheet-never-nine s n l p);
-          with-both = λ k m p. once-nine (lacksTable m (checked s)) (listed s n k) p (listed-never-nine s n k l p);
+          with-table = λ m p. once-nine (lacksTable s m (checked s)) (answer s n) p (sheet-never-nine s n l p);
+          with-both = λ k m p. once-nine (lacksTable s m (checked s)) (listed s n k) p (listed-never-nine s n k l p);
         }

@@ -13,9 +13,9 @@ use Rattle.rules.specs.declared.Checked.the-variants as found
 use Rattle.rules.specs.declared.Counts.{Counts}
 use Rattle.rules.specs.Sheet.{envOf, tokensOf}
 use Rattle.rules.specs.Checks.{checked}
-use Rattle.rules.specs.Answer.{Answer, refusal, answerAs, answer, format, reportOf, bufferOf, reported, bufferAfter}
+use Rattle.rules.specs.Answer.{Answer, refusal, isWithdrawn, answerAs, answer, format, reportOf, bufferOf, reported, bufferAfter}
 use Rattle.rules.specs.Base.{if_then_else_}
-use Rattle.rules.specs.Rows.{rows, placeholders, isShort, listedAs, listed, listFor, listAs, listedReport, listedBuffer, listAfter}
+use Rattle.rules.specs.Rows.{rows, placeholders, toLayOut, isShort, listedAs, listed, listFor, listAs, listedReport, listedBuffer, listAfter}
 use Rattle.records.specs.Sheeted.{Sheeted}
 use Rattle.switched.specs.Count.{few-placeholders}
 use Rattle.twigmantle.specs.Called.{calledAs, listCalled}
@@ -23,6 +23,8 @@ use Rattle.text.specs.Put.{put}
 use Rattle.rules.specs.declared.Outcome.{Outcome}
 use Rattle.rules.specs.Compacted.{refusal as unwritten, compactAs, compact, outcomeOf, bufferWith, Compacts}
 use Rattle.compacted.specs.Call.{call-compacts}
+use Rattle.converted.specs.Converts.{Stored}
+use Rattle.converted.specs.Call.{call-stored}
 
 -- a buffer that is filled with zero is that of a refusal
 zeroed : (d q : List ℕ) → q ≡ put d 0 (replicate (length d) 0) → q ≡ replicate (length d) 0
@@ -82,19 +84,19 @@ module _ (s : List ℕ) (k : ℕ) (c : Counts) where
   pub five-fit : Sheeted s c → (n : ℕ) → n ≡ placeholders (tokensOf s c) → 5 * n < 18446744073709551616
   five-fit h n e = let f = few-placeholders s c in let t = h .few .tokens in omega arith
 
-  pub by-asked : (b : Bool) (n : ℕ) → b ≡ true → n ≡ placeholders (tokensOf s c) → ltb k (5 * n) ≡ (b && isShort s k (found.Sound c))
-  unfolding isShort
-  by-asked b n t e = rw (t, e)
+  pub by-asked : (b : Bool) (n : ℕ) → isWithdrawn s ≡ false → b ≡ true → n ≡ placeholders (tokensOf s c) → ltb k (5 * n) ≡ (b && isShort s k (found.Sound c))
+  unfolding isShort toLayOut
+  by-asked b n w t e = rw (t, e, w)
 
   pub by-unasked : (b : Bool) → b ≡ false → false ≡ (b && isShort s k (found.Sound c))
   by-unasked b f = rw f
 
   -- the list has room for the rows that are asked for
-  pub enough : (b g : Bool) → g ≡ (b && isShort s k (found.Sound c)) → g ≡ false → b ≡ true → 5 * placeholders (tokensOf s c) ≤ k
-  unfolding isShort
-  enough b g e f t = ltb-false k (5 * placeholders (tokensOf s c)) (rw t at (sym e ∙ f))
+  pub enough : (b g : Bool) → isWithdrawn s ≡ false → g ≡ (b && isShort s k (found.Sound c)) → g ≡ false → b ≡ true → 5 * placeholders (tokensOf s c) ≤ k
+  unfolding isShort toLayOut
+  enough b g w e f t = ltb-false k (5 * placeholders (tokensOf s c)) (rw (t, w) at (sym e ∙ f))
 
-  module _ (room : ℕ) (b g : Bool) (e : g ≡ (b && isShort s k (found.Sound c))) (r : Report) (out list : List ℕ) where
+  module _ (w : isWithdrawn s ≡ false) (room : ℕ) (b g : Bool) (e : g ≡ (b && isShort s k (found.Sound c))) (r : Report) (out list : List ℕ) where
     pub by-short : g ≡ true → r ≡ reportOf (refusal 10 0) → out ≡ bufferOf room (refusal 10 0) → list ≡ replicate k 0 → Told s room b k (found.Sound c) r out list
     unfolding calledAs listCalled listedAs listAs listFor
     by-short t told left zero = go b (sym e ∙ t)
@@ -109,8 +111,8 @@ module _ (s : List ℕ) (k : ℕ) (c : Counts) where
     by-laid f told left kept = go b (sym e ∙ f) kept
       where
         go : (h : Bool) → (h && isShort s k (found.Sound c)) ≡ false → list ≡ (if h then listFor k (rows (envOf s c room) (tokensOf s c)) (format (envOf s c room) (tokensOf s c)) else replicate k 0) → Told s room h k (found.Sound c) r out list
-        go true z q = (rw z told, (rw z left, rw z q))
-        go false z q = (told, (left, q))
+        go true z q = (rw (z, w) told, (rw (z, w) left, rw (z, w) q))
+        go false z q = (rw w told, (rw w left, q))
 
 -- ---- the exported calls
 
@@ -126,10 +128,10 @@ module _ (s : List ℕ) (room k : ℕ) (r : Report) (out list : List ℕ) where
 -- ---- the compacting call
 
 pub by-written : (s : List ℕ) (room : ℕ) (f c : Checked) (r : Outcome) (out : List ℕ) → f ≡ checked s → f ≡ c → r ≡ outcomeOf (compactAs s room c) → out ≡ bufferWith room (compactAs s room c)
-    → (r ≡ outcomeOf (compact s room)) × ((out ≡ bufferWith room (compact s room)) × Compacts s r out)
+    → (r ≡ outcomeOf (compact s room)) × ((out ≡ bufferWith room (compact s room)) × (Compacts s r out × Stored s r out))
 unfolding compact
 by-written s room f c r out e g told left =
     let h : c ≡ checked s = sym g ∙ e in
     let one : r ≡ outcomeOf (compact s room) = told ∙ ap (λ (z : Checked). outcomeOf (compactAs s room z)) h in
     let two : out ≡ bufferWith room (compact s room) = left ∙ ap (λ (z : Checked). bufferWith room (compactAs s room z)) h in
-    (one, (two, call-compacts s room r out one two))
+    (one, (two, (call-compacts s room r out one two, call-stored s room r out one two)))

@@ -13,8 +13,8 @@ use Rattle.rules.specs.declared.Counts.{Counts}
 use Rattle.rules.specs.declared.Report.{Report}
 use Rattle.rules.specs.Base.{if_then_else_}
 use Rattle.rules.specs.Checks.{checked}
-use Rattle.rules.specs.Answer.{refusal, answer, reportOf, bufferOf, reported, bufferAfter}
-use Rattle.rules.specs.Rows.{listed, listedReport, listedBuffer, listAfter}
+use Rattle.rules.specs.Answer.{refusal, isWithdrawn, answerAs, answer, reportOf, bufferOf, reported, bufferAfter}
+use Rattle.rules.specs.Rows.{toLayOut, isShort, listedAs, listFor, listAs, listed, listedReport, listedBuffer, listAfter}
 use Rattle.rules.specs.Due.{Faithful}
 use Rattle.rules.specs.Shown.{Pointed}
 use Rattle.rules.proofs.Call.{call-faithful}
@@ -34,16 +34,16 @@ on false e = sym e
 -- report, buffer and list of a call with a table (t true) of m words, whose checks found c
 abbrev pub Tabled : List ℕ → ℕ → Bool → ℕ → Bool → ℕ → Checked → Report → List ℕ → List ℕ → Type 0
 Tabled s room b k t m c r out list =
-    (r ≡ reportOf (onceAs t m c (calledAs s room b k c)))
-    × ((out ≡ bufferOf room (onceAs t m c (calledAs s room b k c)))
-    × (list ≡ listOnceAs t m c k (listCalled s room b k c)))
+    (r ≡ reportOf (onceAs s t m c (calledAs s room b k c)))
+    × ((out ≡ bufferOf room (onceAs s t m c (calledAs s room b k c)))
+    × (list ≡ listOnceAs s t m c k (listCalled s room b k c)))
 
 pub by-found-once : (s : List ℕ) (room : ℕ) (b : Bool) (k : ℕ) (t : Bool) (m : ℕ) (f c : Checked) (r : Report) (out list : List ℕ) → f ≡ checked s → f ≡ c → Tabled s room b k t m c r out list → Tabled s room b k t m (checked s) r out list
 by-found-once s room b k t m f c r out list e g h = subst (λ (z : Checked). Tabled s room b k t m z r out list) (sym g ∙ e) h
 
 module _ (s : List ℕ) (room : ℕ) (b : Bool) (k : ℕ) (t : Bool) (m : ℕ) (r : Report) (out list : List ℕ) where
   -- the table is not asked for, or is long enough
-  by-plain : (c : Checked) → (t && lacksTable m c) ≡ false → Told s room b k c r out list → Tabled s room b k t m c r out list
+  by-plain : (c : Checked) → (t && lacksTable s m c) ≡ false → Told s room b k c r out list → Tabled s room b k t m c r out list
   unfolding onceAs listOnceAs
   by-plain c e h = (rw e (h .0), (rw e (h .1 .0), rw e (h .1 .1)))
 
@@ -68,19 +68,29 @@ module _ (s : List ℕ) (room : ℕ) (b : Bool) (k : ℕ) (t : Bool) (m : ℕ) (
   once-byte p h = by-plain (found.Byte p) (never t) h
 
   module _ (c : Counts) where
-    pub untabled : not t ≡ true → Told s room b k (found.Sound c) r out list → Tabled s room b k t m (found.Sound c) r out list
-    untabled e h = by-plain (found.Sound c) (rw (off t e)) h
-
-    pub tabled-narrow : not t ≡ false → m < 6 * c .tokens → r ≡ reportOf (refusal 12 0) → out ≡ bufferOf room (refusal 12 0) → list ≡ replicate k 0 → Tabled s room b k t m (found.Sound c) r out list
-    unfolding onceAs listOnceAs lacksTable
-    tabled-narrow e l told left zero = (rw (on t e, lt) told, (rw (on t e, lt) left, rw (on t e, lt) zero))
+    -- 14 is given, and neither 12 nor 10 comes before it
+    pub withdrawn : isWithdrawn s ≡ true → r ≡ reportOf (refusal 14 28) → out ≡ bufferOf room (refusal 14 28) → list ≡ replicate k 0 → Tabled s room b k t m (found.Sound c) r out list
+    unfolding lacksTable calledAs listCalled listedAs listAs answerAs isShort toLayOut listFor
+    withdrawn w told left zero = by-plain (found.Sound c) (rw w (never t)) (go b)
       where
-        lt : ltb m (6 * c .tokens) ≡ true
-        lt = lt-ltb m (6 * c .tokens) l
+        go : (h : Bool) → Told s room h k (found.Sound c) r out list
+        go true = (rw (w, le-ltb k 0 (omega arith)) told, (rw (w, le-ltb k 0 (omega arith)) left, rw (w, le-ltb k 0 (omega arith)) zero))
+        go false = (rw w told, (rw w left, zero))
 
-    pub tabled-wide : not t ≡ false → 6 * c .tokens ≤ m → Told s room b k (found.Sound c) r out list → Tabled s room b k t m (found.Sound c) r out list
-    unfolding lacksTable
-    tabled-wide e l h = by-plain (found.Sound c) (rw (on t e, le-ltb m (6 * c .tokens) l)) h
+    module _ (w : isWithdrawn s ≡ false) where
+      pub untabled : not t ≡ true → Told s room b k (found.Sound c) r out list → Tabled s room b k t m (found.Sound c) r out list
+      untabled e h = by-plain (found.Sound c) (rw (off t e)) h
+
+      pub tabled-narrow : not t ≡ false → m < 6 * c .tokens → r ≡ reportOf (refusal 12 0) → out ≡ bufferOf room (refusal 12 0) → list ≡ replicate k 0 → Tabled s room b k t m (found.Sound c) r out list
+      unfolding onceAs listOnceAs lacksTable
+      tabled-narrow e l told left zero = (rw (on t e, w, lt) told, (rw (on t e, w, lt) left, rw (on t e, w, lt) zero))
+        where
+          lt : ltb m (6 * c .tokens) ≡ true
+          lt = lt-ltb m (6 * c .tokens) l
+
+      pub tabled-wide : not t ≡ false → 6 * c .tokens ≤ m → Told s room b k (found.Sound c) r out list → Tabled s room b k t m (found.Sound c) r out list
+      unfolding lacksTable
+      tabled-wide e l h = by-plain (found.Sound c) (rw (on t e, w, le-ltb m (6 * c .tokens) l)) h
 
 -- ---- the exported calls
 
@@ -99,7 +109,7 @@ module _ (s : List ℕ) (room k m : ℕ) (r : Report) (out list : List ℕ) wher
   once-listed h = h
 
   -- what is promised of the plain call, where 12 is not given
-  module _ (e : lacksTable m (checked s) ≡ false) where
+  module _ (e : lacksTable s m (checked s) ≡ false) where
     pub same-answer : once s room m ≡ answer s room
     unfolding once onceAs
     same-answer = rw e
@@ -119,20 +129,20 @@ module _ (s : List ℕ) (room k m : ℕ) (r : Report) (out list : List ℕ) wher
 
   pub once-faithful : r ≡ reportOf (once s room m) → out ≡ bufferOf room (once s room m) → Faithful s r out
   unfolding reported bufferAfter once onceAs
-  once-faithful told left = go (lacksTable m (checked s)) refl
+  once-faithful told left = go (lacksTable s m (checked s)) refl
     where
-      go : (z : Bool) → lacksTable m (checked s) ≡ z → Faithful s r out
+      go : (z : Bool) → lacksTable s m (checked s) ≡ z → Faithful s r out
       go true e = twelve (rw e at told)
       go false e = call-faithful s room r out (told ∙ ap reportOf (same-answer e)) (left ∙ ap (bufferOf room) (same-answer e))
 
   pub once-listed-faithful : r ≡ reportOf (onceListed s room k m) → out ≡ bufferOf room (onceListed s room k m) → Faithful s r out
   unfolding listedReport listedBuffer onceListed onceAs
-  once-listed-faithful told left = go (lacksTable m (checked s)) refl
+  once-listed-faithful told left = go (lacksTable s m (checked s)) refl
     where
-      go : (z : Bool) → lacksTable m (checked s) ≡ z → Faithful s r out
+      go : (z : Bool) → lacksTable s m (checked s) ≡ z → Faithful s r out
       go true e = twelve (rw e at told)
       go false e = call-listed-faithful s room k r out (told ∙ ap reportOf (same-listed e)) (left ∙ ap (bufferOf room) (same-listed e))
 
-  pub once-pointed : r ≡ reportOf (onceListed s room k m) → out ≡ bufferOf room (onceListed s room k m) → list ≡ onceList s room k m → lacksTable m (checked s) ≡ false → Pointed s r out list
+  pub once-pointed : r ≡ reportOf (onceListed s room k m) → out ≡ bufferOf room (onceListed s room k m) → list ≡ onceList s room k m → lacksTable s m (checked s) ≡ false → Pointed s r out list
   unfolding listedReport listedBuffer
   once-pointed told left kept e = call-pointed s room k r out (told ∙ ap reportOf (same-listed e)) (left ∙ ap (bufferOf room) (same-listed e)) list (kept ∙ same-list e)

@@ -7,7 +7,7 @@ ghost use Rattle.rules.specs.declared.Checked.the-variants as found;
 ghost use Rattle.rules.specs.Base.{if_then_else_};
 ghost use Rattle.rules.specs.Checks.{checked};
 ghost use Rattle.rules.specs.Sheet.{envOf, tokensOf};
-ghost use Rattle.rules.specs.Answer.{refusal, format, reportOf, bufferOf, reported, bufferAfter};
+ghost use Rattle.rules.specs.Answer.{refusal, format, isWithdrawn, reportOf, bufferOf, reported, bufferAfter};
 ghost use Rattle.rules.specs.Rows.{rows as rowsOf, placeholders as placeholdersOf, isShort, listFor, listedReport, listedBuffer, listAfter};
 ghost use Rattle.rules.specs.Due.{Faithful};
 ghost use Rattle.rules.specs.Shown.{Pointed};
@@ -15,6 +15,8 @@ ghost use Rattle.rules.specs.Room.{roomFor};
 ghost use Rattle.rules.specs.Compacted.{refusal as unwritten, compact as compactOf, outcomeOf, bufferWith, Compacts};
 ghost use Rattle.mended.specs.Mended.{mend as mendOf, mendOutcome, sheetAfter, reportAfter};
 ghost use Rattle.mended.specs.Mends.{Mends};
+ghost use Rattle.converted.specs.Converted.{convert as convertOf, convertOutcome, sheetAfter as convertedSheet};
+ghost use Rattle.converted.specs.Converts.{Converts, Stored};
 ghost use Rattle.records.specs.Sheeted.{Sheeted};
 ghost use Rattle.head.specs.Head.{defaultHead, rustHead, headWritten, headReturned};
 ghost use Rattle.rules.specs.Words.{bodyAt};
@@ -75,7 +77,7 @@ fn laid_out(
 
 // Whether rows are asked for, and the list has too few words.
 fn is_short(sheet: &[u8], words: usize, with_rows: bool, c: Counts) -> bool
-    requires { ⌜ Sheeted (now sheet) c ⌝ }
+    requires { ⌜ (Sheeted (now sheet) c) × (isWithdrawn (now sheet) ≡ false) ⌝ }
     ensures { λ r. ⌜ r ≡ («with_rows» && isShort (now (sheet .entry)) words (found.Sound c)) ⌝ }
 {
     if with_rows {
@@ -93,7 +95,7 @@ fn sound(
     with_table: bool,
     c: Counts,
 ) -> Report
-    requires { ⌜ Sheeted (now sheet) c ⌝ }
+    requires { ⌜ (Sheeted (now sheet) c) × (isWithdrawn (now sheet) ≡ false) ⌝ }
     requires { ⌜ («with_table» ≡ true → Filled (now sheet) (bodyAt c) (c .tokens) (now table)) ⌝ }
     ensures { λ r. ⌜ r ≡ reportOf (calledAs (now (sheet .entry)) (length (now (text .entry))) «with_rows» (length (now (rows .entry))) (found.Sound c)) ⌝ }
     ensures { λ r. ⌜ now (text .exit) ≡ bufferOf (length (now (text .entry))) (calledAs (now (sheet .entry)) (length (now (text .entry))) «with_rows» (length (now (rows .entry))) (found.Sound c)) ⌝ }
@@ -116,11 +118,11 @@ fn tabled(
     with_table: bool,
     c: Counts,
 ) -> Report
-    requires { ⌜ Sheeted (now sheet) c ⌝ }
+    requires { ⌜ (Sheeted (now sheet) c) × (isWithdrawn (now sheet) ≡ false) ⌝ }
     ensures { λ r. ⌜ length (now (table .exit)) ≡ length (now (table .entry)) ⌝ }
-    ensures { λ r. ⌜ r ≡ reportOf (onceAs «with_table» (length (now (table .entry))) (found.Sound c) (calledAs (now (sheet .entry)) (length (now (text .entry))) «with_rows» (length (now (rows .entry))) (found.Sound c))) ⌝ }
-    ensures { λ r. ⌜ now (text .exit) ≡ bufferOf (length (now (text .entry))) (onceAs «with_table» (length (now (table .entry))) (found.Sound c) (calledAs (now (sheet .entry)) (length (now (text .entry))) «with_rows» (length (now (rows .entry))) (found.Sound c))) ⌝ }
-    ensures { λ r. ⌜ now (rows .exit) ≡ listOnceAs «with_table» (length (now (table .entry))) (found.Sound c) (length (now (rows .entry))) (listCalled (now (sheet .entry)) (length (now (text .entry))) «with_rows» (length (now (rows .entry))) (found.Sound c)) ⌝ }
+    ensures { λ r. ⌜ r ≡ reportOf (onceAs (now (sheet .entry)) «with_table» (length (now (table .entry))) (found.Sound c) (calledAs (now (sheet .entry)) (length (now (text .entry))) «with_rows» (length (now (rows .entry))) (found.Sound c))) ⌝ }
+    ensures { λ r. ⌜ now (text .exit) ≡ bufferOf (length (now (text .entry))) (onceAs (now (sheet .entry)) «with_table» (length (now (table .entry))) (found.Sound c) (calledAs (now (sheet .entry)) (length (now (text .entry))) «with_rows» (length (now (rows .entry))) (found.Sound c))) ⌝ }
+    ensures { λ r. ⌜ now (rows .exit) ≡ listOnceAs (now (sheet .entry)) «with_table» (length (now (table .entry))) (found.Sound c) (length (now (rows .entry))) (listCalled (now (sheet .entry)) (length (now (text .entry))) «with_rows» (length (now (rows .entry))) (found.Sound c)) ⌝ }
 {
     if !with_table {
         return sound(sheet, text, rows, with_rows, table, false, c);
@@ -134,6 +136,28 @@ fn tabled(
     sound(sheet, text, rows, with_rows, table, true, c)
 }
 
+// Word 7 at 1 is refused before anything else is asked of a sound sheet.
+fn unless_withdrawn(
+    sheet: &[u8],
+    text: &mut [u8],
+    rows: &mut [u32],
+    with_rows: bool,
+    table: &mut [u32],
+    with_table: bool,
+    c: Counts,
+) -> Report
+    requires { ⌜ Sheeted (now sheet) c ⌝ }
+    ensures { λ r. ⌜ length (now (table .exit)) ≡ length (now (table .entry)) ⌝ }
+    ensures { λ r. ⌜ r ≡ reportOf (onceAs (now (sheet .entry)) «with_table» (length (now (table .entry))) (found.Sound c) (calledAs (now (sheet .entry)) (length (now (text .entry))) «with_rows» (length (now (rows .entry))) (found.Sound c))) ⌝ }
+    ensures { λ r. ⌜ now (text .exit) ≡ bufferOf (length (now (text .entry))) (onceAs (now (sheet .entry)) «with_table» (length (now (table .entry))) (found.Sound c) (calledAs (now (sheet .entry)) (length (now (text .entry))) «with_rows» (length (now (rows .entry))) (found.Sound c))) ⌝ }
+    ensures { λ r. ⌜ now (rows .exit) ≡ listOnceAs (now (sheet .entry)) «with_table» (length (now (table .entry))) (found.Sound c) (length (now (rows .entry))) (listCalled (now (sheet .entry)) (length (now (text .entry))) «with_rows» (length (now (rows .entry))) (found.Sound c)) ⌝ }
+{
+    if records::is_withdrawn(sheet) {
+        return refused(text, rows, 14, 28);
+    }
+    tabled(sheet, text, rows, with_rows, table, with_table, c)
+}
+
 fn answered(
     sheet: &[u8],
     text: &mut [u8],
@@ -143,13 +167,13 @@ fn answered(
     with_table: bool,
 ) -> Report
     ensures { λ r. ⌜ length (now (table .exit)) ≡ length (now (table .entry)) ⌝ }
-    ensures { λ r. ⌜ r ≡ reportOf (onceAs «with_table» (length (now (table .entry))) (checked (now (sheet .entry))) (calledAs (now (sheet .entry)) (length (now (text .entry))) «with_rows» (length (now (rows .entry))) (checked (now (sheet .entry))))) ⌝ }
-    ensures { λ r. ⌜ now (text .exit) ≡ bufferOf (length (now (text .entry))) (onceAs «with_table» (length (now (table .entry))) (checked (now (sheet .entry))) (calledAs (now (sheet .entry)) (length (now (text .entry))) «with_rows» (length (now (rows .entry))) (checked (now (sheet .entry))))) ⌝ }
-    ensures { λ r. ⌜ now (rows .exit) ≡ listOnceAs «with_table» (length (now (table .entry))) (checked (now (sheet .entry))) (length (now (rows .entry))) (listCalled (now (sheet .entry)) (length (now (text .entry))) «with_rows» (length (now (rows .entry))) (checked (now (sheet .entry)))) ⌝ }
+    ensures { λ r. ⌜ r ≡ reportOf (onceAs (now (sheet .entry)) «with_table» (length (now (table .entry))) (checked (now (sheet .entry))) (calledAs (now (sheet .entry)) (length (now (text .entry))) «with_rows» (length (now (rows .entry))) (checked (now (sheet .entry))))) ⌝ }
+    ensures { λ r. ⌜ now (text .exit) ≡ bufferOf (length (now (text .entry))) (onceAs (now (sheet .entry)) «with_table» (length (now (table .entry))) (checked (now (sheet .entry))) (calledAs (now (sheet .entry)) (length (now (text .entry))) «with_rows» (length (now (rows .entry))) (checked (now (sheet .entry))))) ⌝ }
+    ensures { λ r. ⌜ now (rows .exit) ≡ listOnceAs (now (sheet .entry)) «with_table» (length (now (table .entry))) (checked (now (sheet .entry))) (length (now (rows .entry))) (listCalled (now (sheet .entry)) (length (now (text .entry))) «with_rows» (length (now (rows .entry))) (checked (now (sheet .entry)))) ⌝ }
 {
     let found = checks::check(sheet);
     match found {
-        Checked::Sound(c) => tabled(sheet, text, rows, with_rows, table, with_table, c),
+        Checked::Sound(c) => unless_withdrawn(sheet, text, rows, with_rows, table, with_table, c),
         Checked::Size => refused(text, rows, 1, 0),
         Checked::Word(p) => refused(text, rows, 2, p),
         Checked::Place(p) => refused(text, rows, 3, p),
@@ -167,9 +191,9 @@ fn called(
     with_table: bool,
 ) -> Report
     ensures { λ r. ⌜ now (table .exit) ≡ replicate (length (now (table .entry))) 0 ⌝ }
-    ensures { λ r. ⌜ r ≡ reportOf (onceAs «with_table» (length (now (table .entry))) (checked (now (sheet .entry))) (calledAs (now (sheet .entry)) (length (now (text .entry))) «with_rows» (length (now (rows .entry))) (checked (now (sheet .entry))))) ⌝ }
-    ensures { λ r. ⌜ now (text .exit) ≡ bufferOf (length (now (text .entry))) (onceAs «with_table» (length (now (table .entry))) (checked (now (sheet .entry))) (calledAs (now (sheet .entry)) (length (now (text .entry))) «with_rows» (length (now (rows .entry))) (checked (now (sheet .entry))))) ⌝ }
-    ensures { λ r. ⌜ now (rows .exit) ≡ listOnceAs «with_table» (length (now (table .entry))) (checked (now (sheet .entry))) (length (now (rows .entry))) (listCalled (now (sheet .entry)) (length (now (text .entry))) «with_rows» (length (now (rows .entry))) (checked (now (sheet .entry)))) ⌝ }
+    ensures { λ r. ⌜ r ≡ reportOf (onceAs (now (sheet .entry)) «with_table» (length (now (table .entry))) (checked (now (sheet .entry))) (calledAs (now (sheet .entry)) (length (now (text .entry))) «with_rows» (length (now (rows .entry))) (checked (now (sheet .entry))))) ⌝ }
+    ensures { λ r. ⌜ now (text .exit) ≡ bufferOf (length (now (text .entry))) (onceAs (now (sheet .entry)) «with_table» (length (now (table .entry))) (checked (now (sheet .entry))) (calledAs (now (sheet .entry)) (length (now (text .entry))) «with_rows» (length (now (rows .entry))) (checked (now (sheet .entry))))) ⌝ }
+    ensures { λ r. ⌜ now (rows .exit) ≡ listOnceAs (now (sheet .entry)) «with_table» (length (now (table .entry))) (checked (now (sheet .entry))) (length (now (rows .entry))) (listCalled (now (sheet .entry)) (length (now (text .entry))) «with_rows» (length (now (rows .entry))) (checked (now (sheet .entry)))) ⌝ }
 {
     let r = answered(sheet, text, rows, with_rows, table, with_table);
     rows::clear(table);
@@ -226,7 +250,7 @@ pub extern "C" fn twigmantle_layout_rows_once(
     ensures { λ r. ⌜ now (rows .exit) ≡ onceList (now (sheet .entry)) (length (now (text .entry))) (length (now (rows .entry))) (length (now (table .entry))) ⌝ }
     ensures { λ r. ⌜ now (table .exit) ≡ replicate (length (now (table .entry))) 0 ⌝ }
     ensures { λ r. ⌜ Faithful (now (sheet .entry)) r (now (text .exit)) ⌝ }
-    ensures { λ r. ⌜ ((lacksTable (length (now (table .entry))) (checked (now (sheet .entry))) ≡ false) → Pointed (now (sheet .entry)) r (now (text .exit)) (now (rows .exit))) ⌝ }
+    ensures { λ r. ⌜ ((lacksTable (now (sheet .entry)) (length (now (table .entry))) (checked (now (sheet .entry))) ≡ false) → Pointed (now (sheet .entry)) r (now (text .exit)) (now (rows .exit))) ⌝ }
 {
     called(sheet, text, rows, true, table, true)
 }
@@ -260,6 +284,7 @@ pub extern "C" fn twigmantle_compact(sheet: &[u8], out: &mut [u8]) -> Outcome
     ensures { λ r. ⌜ r ≡ outcomeOf (compactOf (now (sheet .entry)) (length (now (out .entry)))) ⌝ }
     ensures { λ r. ⌜ now (out .exit) ≡ bufferWith (length (now (out .entry))) (compactOf (now (sheet .entry)) (length (now (out .entry)))) ⌝ }
     ensures { λ r. ⌜ Compacts (now (sheet .entry)) r (now (out .exit)) ⌝ }
+    ensures { λ r. ⌜ Stored (now (sheet .entry)) r (now (out .exit)) ⌝ }
 {
     let found = checks::check(sheet);
     match found {
@@ -280,6 +305,16 @@ pub extern "C" fn twigmantle_mend(sheet: &mut [u8], report: &mut [u32]) -> Outco
     ensures { λ r. ⌜ Mends (now (sheet .entry)) (length (now (report .entry))) r (now (sheet .exit)) (now (report .exit)) ⌝ }
 {
     mend::mend(sheet, report)
+}
+
+// The converting call: word 7 at 1, which layout refuses, becomes 2 where the sheet lies.
+#[no_mangle]
+pub extern "C" fn twigmantle_convert(sheet: &mut [u8]) -> Outcome
+    ensures { λ r. ⌜ r ≡ convertOutcome (convertOf (now (sheet .entry))) ⌝ }
+    ensures { λ r. ⌜ now (sheet .exit) ≡ convertedSheet (now (sheet .entry)) (convertOf (now (sheet .entry))) ⌝ }
+    ensures { λ r. ⌜ Converts (now (sheet .entry)) r (now (sheet .exit)) ⌝ }
+{
+    convert::convert(sheet)
 }
 
 // The default head: 48 bytes and zero after them; zero alone in a slice under 48.

@@ -1,7 +1,7 @@
 use denote.Ref.{now}
 use Rattle.rules.specs.Room.{roomAs}
 use Rattle.checks.specs.Sound.{answer-sheeted}
-use Rattle.room.proofs.CallLaws.{by-refused, by-sum}
+use Rattle.room.proofs.CallLaws.{by-refused}
 use borrow.Author.Needs.{needs}
 use Rattle.room.proofs.room_for.Statement.{statement}
 use Rattle.room.proofs.room_for.Tie as tie
@@ -12,8 +12,8 @@ check-requires c κs = search needs
 enum-known-found : tie.Need-enum-known-found
 enum-known-found c = search needs
 
-room-requires : tie.Need-room-requires
-room-requires c κs = search (needs, answer-sheeted)
+room-sound-requires : tie.Need-room-sound-requires
+room-sound-requires c κs = search (needs, answer-sheeted)
 
 enum-told : tie.Need-enum-told
 enum-told c = search needs
@@ -40,7 +40,7 @@ refused-requires-4 : tie.Need-refused-requires-4
 refused-requires-4 c κs = search needs
 
 returns : tie.Need-returns
-returns c = by-sum (now (c .before .before .before .before .before .before .args .sheet)) _ (c .before .before .before .before .check .ensures) _ _ (c .before .before .found .given .1) (c .room .ensures)
+returns c = by-refused (now (c .before .before .before .before .before .before .args .sheet)) _ (c .before .before .before .before .check .ensures) _ _ (c .before .before .found .given .1) (c .room-sound .ensures)
 
 returns-2 : tie.Need-returns-2
 unfolding roomAs
@@ -64,7 +64,7 @@ room-for-spec =
     (tie.spec
     check-requires
     enum-known-found
-    room-requires
+    room-sound-requires
     enum-told
     refused-requires
     enum-known-found-2

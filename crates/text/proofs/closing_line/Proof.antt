@@ -1,5 +1,5 @@
 use borrow.Author.Needs.{needs}
-use Rattle.text.proofs.LineLaws.{by-closed-out, by-closed-in, by-closed-held}
+use Rattle.text.proofs.LineLaws.{by-closed-out, by-closed-held}
 use Rattle.text.proofs.closing_line.Statement.{statement}
 use Rattle.text.proofs.closing_line.Tie as tie
 
@@ -11,12 +11,6 @@ new-line-requires c κs = search needs
 
 enum-told-2 : tie.Need-enum-told-2
 enum-told-2 c = search needs
-
-new-line-requires-2 : tie.Need-new-line-requires-2
-new-line-requires-2 c κs = search needs
-
-enum-told-3 : tie.Need-enum-told-3
-enum-told-3 c = search needs
 
 held-line-requires : tie.Need-held-line-requires
 held-line-requires c κs = search needs
@@ -31,13 +25,7 @@ same-length-2 : tie.Need-same-length-2
 same-length-2 c = search needs
 
 returns-2 : tie.Need-returns-2
-returns-2 c = search (needs, by-closed-in)
-
-same-length-3 : tie.Need-same-length-3
-same-length-3 c = search needs
-
-returns-3 : tie.Need-returns-3
-returns-3 c = search (needs, by-closed-held)
+returns-2 c = search (needs, by-closed-held)
 
 pub closing-line-spec : {M : Type 1} → statement M
 closing-line-spec =
@@ -46,12 +34,8 @@ closing-line-spec =
     enum-told
     new-line-requires
     enum-told-2
-    new-line-requires-2
-    enum-told-3
     held-line-requires
     same-length
     returns
     same-length-2
-    returns-2
-    same-length-3
-    returns-3)
+    returns-2)

@@ -13,8 +13,8 @@ check-requires c κs = search needs
 enum-known-found : tie.Need-enum-known-found
 enum-known-found c = search needs
 
-tabled-requires : tie.Need-tabled-requires
-tabled-requires c κs = search (needs, answer-sheeted)
+unless-withdrawn-requires : tie.Need-unless-withdrawn-requires
+unless-withdrawn-requires c κs = search (needs, answer-sheeted)
 
 enum-told : tie.Need-enum-told
 enum-told c = search needs
@@ -51,7 +51,7 @@ same-length-3 c = search needs
 
 returns : tie.Need-returns
 returns c =
-    let told = c .before .before .before .before .before .before .tabled .ensures in
+    let told = c .before .before .before .before .before .before .unless-withdrawn .ensures in
     (told .0, by-found-once (now (c .before .before .before .before .before .before .before .before .before .before .before .before .before .before .before .before .before .before .args .sheet)) _ _ _ _ _ _ _ _ _ _ (c .before .before .before .before .before .before .before .before .before .before .before .before .before .check .ensures) (c .before .before .before .before .before .before .before .before .before .before .before .found .given .1) (told .1))
 
 same-length-4 : tie.Need-same-length-4
@@ -108,7 +108,7 @@ answered-spec =
     (tie.spec
     check-requires
     enum-known-found
-    tabled-requires
+    unless-withdrawn-requires
     enum-told
     refused-requires
     enum-known-found-2

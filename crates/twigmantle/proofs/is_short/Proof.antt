@@ -7,10 +7,10 @@ placeholders-requires : tie.Need-placeholders-requires
 placeholders-requires c κs = search needs
 
 mul-result : tie.Need-mul-result
-mul-result c = let h = five-fit _ 0 _ (c .before .before .before .pre) _ (c .placeholders .ensures) in search (needs, h)
+mul-result c = let h = five-fit _ 0 _ (c .before .before .before .pre .0) _ (c .placeholders .ensures) in search (needs, h)
 
 returns : tie.Need-returns
-returns c = by-asked _ _ _ _ _ (c .before .if1 .taken) (c .placeholders .ensures)
+returns c = by-asked _ _ _ _ _ (c .before .before .before .pre .1) (c .before .if1 .taken) (c .placeholders .ensures)
 
 returns-2 : tie.Need-returns-2
 returns-2 c = by-unasked _ _ _ _ (c .if1 .left)

@@ -21,7 +21,7 @@ same-length-3 : tie.Need-same-length-3
 same-length-3 c = search needs
 
 returns : tie.Need-returns
-returns c = (refl, untabled (now (c .before .before .before .before .before .before .before .before .before .before .before .before .before .args .sheet)) _ _ _ (c .before .before .before .before .before .before .before .before .before .before .before .before .before .args .with-table) _ _ _ _ _ (c .before .before .before .before .before .before .before .before .if1 .taken) (c .before .before .before .before .sound .ensures))
+returns c = (refl, untabled (now (c .before .before .before .before .before .before .before .before .before .before .before .before .before .args .sheet)) _ _ _ (c .before .before .before .before .before .before .before .before .before .before .before .before .before .args .with-table) _ _ _ _ _ (c .before .before .before .before .before .before .before .before .before .before .before .before .before .pre .1) (c .before .before .before .before .before .before .before .before .if1 .taken) (c .before .before .before .before .sound .ensures))
 
 mul-if2 : tie.Need-mul-if2
 mul-if2 c = search needs
@@ -38,13 +38,13 @@ same-length-5 c = search needs
 returns-2 : tie.Need-returns-2
 returns-2 c =
     let told = c .before .before .before .before .refused .ensures in
-    (refl, tabled-narrow (now (c .before .before .before .before .before .before .before .before .before .before .before .before .before .args .sheet)) _ _ _ (c .before .before .before .before .before .before .before .before .before .before .before .before .before .args .with-table) _ _ _ _ _ (c .before .before .before .before .before .before .before .before .if1 .left) (c .before .before .before .before .before .before .before .if2 .taken) (told .0) (told .1 .0) (told .1 .1))
+    (refl, tabled-narrow (now (c .before .before .before .before .before .before .before .before .before .before .before .before .before .args .sheet)) _ _ _ (c .before .before .before .before .before .before .before .before .before .before .before .before .before .args .with-table) _ _ _ _ _ (c .before .before .before .before .before .before .before .before .before .before .before .before .before .pre .1) (c .before .before .before .before .before .before .before .before .if1 .left) (c .before .before .before .before .before .before .before .if2 .taken) (told .0) (told .1 .0) (told .1 .1))
 
 body-at-requires : tie.Need-body-at-requires
 body-at-requires c κs = search needs
 
 fill-requires : tie.Need-fill-requires
-fill-requires c κs = (rw (c .before .body-at .ensures) (sheeted-readable _ _ (c .before .before .before .before .before .before .before .before .pre)), c .before .before .if2 .left)
+fill-requires c κs = (rw (c .before .body-at .ensures) (sheeted-readable _ _ (c .before .before .before .before .before .before .before .before .pre .0)), c .before .before .if2 .left)
 
 sound-requires-2 : tie.Need-sound-requires-2
 sound-requires-2 c κs =
@@ -61,7 +61,7 @@ same-length-8 : tie.Need-same-length-8
 same-length-8 c = search needs
 
 returns-3 : tie.Need-returns-3
-returns-3 c = (c .before .before .before .before .before .before .before .before .before .before .fill .ensures .0, tabled-wide (now (c .before .before .before .before .before .before .before .before .before .before .before .before .before .before .before .before .before .before .before .args .sheet)) _ _ _ (c .before .before .before .before .before .before .before .before .before .before .before .before .before .before .before .before .before .before .before .args .with-table) _ _ _ _ _ (c .before .before .before .before .before .before .before .before .before .before .before .before .before .before .if1 .left) (c .before .before .before .before .before .before .before .before .before .before .before .before .before .if2 .left) (c .before .before .before .before .sound2 .ensures))
+returns-3 c = (c .before .before .before .before .before .before .before .before .before .before .fill .ensures .0, tabled-wide (now (c .before .before .before .before .before .before .before .before .before .before .before .before .before .before .before .before .before .before .before .args .sheet)) _ _ _ (c .before .before .before .before .before .before .before .before .before .before .before .before .before .before .before .before .before .before .before .args .with-table) _ _ _ _ _ (c .before .before .before .before .before .before .before .before .before .before .before .before .before .before .before .before .before .before .before .pre .1) (c .before .before .before .before .before .before .before .before .before .before .before .before .before .before .if1 .left) (c .before .before .before .before .before .before .before .before .before .before .before .before .before .if2 .left) (c .before .before .before .before .sound2 .ensures))
 
 pub tabled-spec : {M : Type 1} → statement M
 tabled-spec =
