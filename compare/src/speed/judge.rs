@@ -48,13 +48,15 @@ pub fn run(seed: u64, part: &str) {
         row("judge, a query", size, &sheet, &text);
     }
     type Shape = (&'static str, usize, fn() -> (Vec<u8>, Vec<u8>));
-    let shapes: [Shape; 6] = [
+    let shapes: [Shape; 8] = [
         ("judge, 1 word, white", 1, || (words(1, 1), long_text(1))),
         ("judge, 1,024 words, white", 1024, || (words(1024, 32), long_text(1024 * 32))),
         ("judge, 1,024 long words", 1024, || (words(1024, LONG), long_text(1024 * LONG as usize))),
         ("judge, names of 6", 1024, || own(names(6, 5).encode())),
         ("judge, names, last byte", 1024, || own(names(LONG, LONG - 1).encode())),
+        ("judge, names, near the end", 1024, || own(names(LONG, LONG - 10).encode())),
         ("judge, keep words, last byte", 1024, || own(keep_words(LONG, LONG - 1).encode())),
+        ("judge, keep words, near", 1024, || own(keep_words(LONG, LONG - 10).encode())),
     ];
     for (name, size, make) in shapes.into_iter().filter(|shape| wanted(shape.0)) {
         let (sheet, text) = make();
