@@ -4,7 +4,7 @@
  *
  * Built with STACK_OF_ROWS defined it measures the second call, with a list that is never too short; with STACK_OF_ONCE the call that reads ahead once, with such a
  * table; with STACK_OF_COMPACT the one that compacts, with STACK_OF_ROOM the one that says how much to lend, with STACK_OF_MEND the one that mends, with STACK_OF_CONVERT the
- * one that converts.
+ * one that converts, with STACK_OF_JUDGE the one that judges a text: the one that the layout call gives, or none.
  *
  * Counted from the caller's stack pointer at the call down to the lowest byte written: the return address, the library's frames, and those of memcpy and
  * memset. It is exact for the sheets that are run: the stack is painted twice, the second time with each bit turned, so that a written byte shows in one of the
@@ -35,7 +35,7 @@ static uint32_t lent[TWIGMANTLE_MOST_TABLE];
 #define LAYOUT twigmantle_layout_once
 #elif defined STACK_OF_COMPACT
 #define LAYOUT twigmantle_compact
-#elif defined STACK_OF_ROOM || defined STACK_OF_MEND || defined STACK_OF_CONVERT
+#elif defined STACK_OF_ROOM || defined STACK_OF_MEND || defined STACK_OF_CONVERT || defined STACK_OF_JUDGE
 #define LAYOUT without_text
 #else
 #define LAYOUT twigmantle_layout
@@ -43,6 +43,8 @@ static uint32_t lent[TWIGMANTLE_MOST_TABLE];
 
 #if defined STACK_OF_COMPACT || defined STACK_OF_ROOM || defined STACK_OF_MEND || defined STACK_OF_CONVERT
 typedef struct twigmantle_outcome told;
+#elif defined STACK_OF_JUDGE
+typedef struct twigmantle_judged told;
 #else
 typedef struct twigmantle_report told;
 #endif
@@ -68,6 +70,13 @@ static told without_text(const uint8_t *s, size_t n, uint8_t *t, size_t r)
 {
     (void)t, (void)r;
     return twigmantle_convert((uint8_t *)(uintptr_t)s, n);
+}
+#elif defined STACK_OF_JUDGE
+static size_t judged;
+static told without_text(const uint8_t *s, size_t n, uint8_t *t, size_t r)
+{
+    (void)r;
+    return twigmantle_judge(s, n, t, judged);
 }
 #endif
 
@@ -122,6 +131,9 @@ static uintptr_t lowest(layout_call *call, uint64_t paint)
 
 static size_t depth(void)
 {
+#if defined STACK_OF_JUDGE
+    judged = (size_t)twigmantle_layout(sheet, length, text, room).length;
+#endif
     uintptr_t first = lowest(LAYOUT, PAINT), second = lowest(LAYOUT, ~PAINT);
     return caller - (first < second ? first : second);
 }
@@ -165,6 +177,8 @@ static void show(const char *what, uint32_t refusal)
     refusal = refusal == 1 ? refusal : 0;
 #elif defined STACK_OF_CONVERT
     refusal = refusal <= 4 ? refusal : 0;
+#elif defined STACK_OF_JUDGE
+    refusal = refusal <= 5 ? refusal : 0;
 #endif
     if (report.refusal != refusal) {
         printf("refused %" PRIu32 " at %" PRIu64 ", wanted %" PRIu32 "\n", report.refusal, report.place, refusal);

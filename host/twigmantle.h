@@ -3,7 +3,8 @@
  * Link libtwigmantle.a (rt staticlib twigmantle; x86-64). It may call memcpy, memmove and memset, and nothing else; it allocates nothing.
  *
  * Pointers. Each must be good for the length given with it, and may be null where that length is 0. The sheet is only read, but by twigmantle_mend and twigmantle_convert. The sheet, the buffer, the
- * list, the table and the report may not overlap, and no one else may write to any of them during the call: to compact a sheet, lend another buffer than its own.
+ * list, the table and the report may not overlap, and no one else may write to any of them during the call: to compact a sheet, lend another buffer than its own. A text that is
+ * judged is only read; it may overlap its sheet.
  *
  * Threads. The library keeps no state between calls or across them: any number of threads may call at once, each with a buffer and a list of its own. Sheets may be
  * shared, but one that is being mended or converted. */
@@ -102,6 +103,26 @@ struct twigmantle_outcome twigmantle_mend(uint8_t *sheet, size_t n, uint32_t *re
  * Refusals 1 to 4 are those of the layout calls; no other is given. A refusal leaves the sheet as it came; n 0 is refusal 1 at 0. */
 struct twigmantle_outcome twigmantle_convert(uint8_t *sheet, size_t n);
 
+/* What the judge of a text gives back. refusal 0: place is 0, and matches says whether the text is what is due; if it is not, token says from which token on. Otherwise place
+ * says where, and matches and token are 0. */
+struct twigmantle_judged {
+    uint32_t refusal; /* enum twigmantle_refusal */
+    uint64_t place;
+    uint32_t matches; /* 1: the text is what is due; token is 0. 0: it is not, or a refusal */
+    uint64_t token;   /* the first kept token whose bytes are not matched; the number of tokens if only extra bytes remain */
+};
+
+/* Judges a text of length bytes that any tool laid out for the sheet of n bytes: whether it is, white bytes (9 to 13 and 32) taken out, the sheet's kept tokens in order, white
+ * bytes taken out, each as its own value, in the asked letter case where case applies, or as its parameter. Kept are all tokens but the switch comments, the tokens dropped after
+ * them, and Whitespace while formatting is on; a token copied while it is off is due as it is. Where the lines and blanks stand does not matter, so every text of the
+ * layout calls is a yes for its sheet, and so can be a text that they would lay out otherwise. A token without a byte that is not white is always matched.
+ *
+ * Refusals 1 to 4 are those of the layout calls. 5 at its token, before any text is compared: the mode is Indexed, and a placeholder to be laid out counts from one and says 0. Then
+ * 15, this call's alone: a byte of the text is 128 or more; place is its offset in the text. No other is given: a sheet that layout refuses for its depth, its folds or
+ * TWIGMANTLE_INLINE_ON is judged too, and no buffer is lent.
+ * n 0: refusal 1 at 0, whatever the text. length 0, and text may be null: the empty text, which is a yes exactly if nothing but white is due. */
+struct twigmantle_judged twigmantle_judge(const uint8_t *sheet, size_t n, const uint8_t *text, size_t length);
+
 /* Writes the default head into out, n bytes: its 48 bytes, zero after them, and gives 48. An out under 48 bytes becomes zero, and it gives 0; n 0 too. */
 size_t twigmantle_default_head(uint8_t *out, size_t n);
 
@@ -121,9 +142,14 @@ typedef char twigmantle_report_has_width_at_32[offsetof(struct twigmantle_report
 typedef char twigmantle_outcome_has_24_bytes[sizeof(struct twigmantle_outcome) == 24 ? 1 : -1];
 typedef char twigmantle_outcome_has_place_at_8[offsetof(struct twigmantle_outcome, place) == 8 ? 1 : -1];
 typedef char twigmantle_outcome_has_length_at_16[offsetof(struct twigmantle_outcome, length) == 16 ? 1 : -1];
+typedef char twigmantle_judged_has_32_bytes[sizeof(struct twigmantle_judged) == 32 ? 1 : -1];
+typedef char twigmantle_judged_has_place_at_8[offsetof(struct twigmantle_judged, place) == 8 ? 1 : -1];
+typedef char twigmantle_judged_has_matches_at_16[offsetof(struct twigmantle_judged, matches) == 16 ? 1 : -1];
+typedef char twigmantle_judged_has_token_at_24[offsetof(struct twigmantle_judged, token) == 24 ? 1 : -1];
 typedef char twigmantle_lengths_have_64_bits[sizeof(size_t) == 8 && sizeof(void *) == 8 ? 1 : -1];
 
-/* Refusals, and what the place counts: bytes of the sheet up to TWIGMANTLE_REFUSAL_BYTE and at TWIGMANTLE_REFUSAL_WITHDRAWN, tokens up to TWIGMANTLE_REFUSAL_ROOM. */
+/* Refusals, and what the place counts: bytes of the sheet up to TWIGMANTLE_REFUSAL_BYTE and at TWIGMANTLE_REFUSAL_WITHDRAWN, tokens up to TWIGMANTLE_REFUSAL_ROOM, bytes of the
+ * text at TWIGMANTLE_REFUSAL_TEXT. */
 enum twigmantle_refusal {
     TWIGMANTLE_REFUSAL_NONE = 0,
     TWIGMANTLE_REFUSAL_SIZE = 1,   /* under 48 bytes, a count over its bound, or a length that the counts do not give; place 0 */
@@ -139,7 +165,8 @@ enum twigmantle_refusal {
     TWIGMANTLE_REFUSAL_SHEET = 11, /* a buffer shorter than the new sheet; place 0; of twigmantle_compact alone */
     TWIGMANTLE_REFUSAL_TABLE = 12, /* fewer than TWIGMANTLE_TABLE_WORDS words for each token; place 0; of the calls that read ahead once */
     TWIGMANTLE_REFUSAL_REPORT = 13, /* fewer than TWIGMANTLE_CHANGE_WORDS words for each change; place 0; of twigmantle_mend alone */
-    TWIGMANTLE_REFUSAL_WITHDRAWN = 14 /* word TWIGMANTLE_HEAD_INLINE is TWIGMANTLE_INLINE_ON: its offset, 28; of the layout calls and twigmantle_room */
+    TWIGMANTLE_REFUSAL_WITHDRAWN = 14, /* word TWIGMANTLE_HEAD_INLINE is TWIGMANTLE_INLINE_ON: its offset, 28; of the layout calls and twigmantle_room */
+    TWIGMANTLE_REFUSAL_TEXT = 15       /* a byte of the text of 128 or more: its offset in the text; of twigmantle_judge alone */
 };
 
 /* A row of the list, by word: where a placeholder's value stands in the text. */

@@ -2,6 +2,8 @@
 
 #[cfg(feature = "rows")]
 use crate::model::Listed;
+#[cfg(feature = "judge")]
+use crate::model::Verdict;
 use crate::model::{Answer, Refusal};
 use crate::sheet::NONE;
 use crate::{FormatOptions, Indent};
@@ -25,6 +27,17 @@ pub struct Outcome {
     pub refusal: u32,
     pub place: u64,
     pub length: u64,
+}
+
+/// The verdict on a text.
+#[cfg(feature = "judge")]
+#[repr(C)]
+#[derive(Debug, Clone, Copy, PartialEq, Eq)]
+pub struct Judged {
+    pub refusal: u32,
+    pub place: u64,
+    pub matches: u32,
+    pub token: u64,
 }
 
 mod linked {
@@ -84,6 +97,13 @@ mod linked {
         ) -> super::Outcome;
         #[cfg(feature = "convert")]
         pub fn twigmantle_convert(sheet: *mut u8, n: usize) -> super::Outcome;
+        #[cfg(feature = "judge")]
+        pub fn twigmantle_judge(
+            sheet: *const u8,
+            n: usize,
+            text: *const u8,
+            length: usize,
+        ) -> super::Judged;
     }
 }
 
@@ -291,6 +311,24 @@ pub fn converted(old: &[u8]) -> Result<Result<Vec<u8>, Refusal>, String> {
             Ok(Err(Refusal { number, place: place as usize }))
         }
         _ => Err(format!("converted, {changed} bytes are others: {outcome:?}")),
+    }
+}
+
+#[cfg(feature = "judge")]
+pub fn judge(sheet: &[u8], text: &[u8]) -> Judged {
+    // Safe: both slices are as long as is said.
+    unsafe { linked::twigmantle_judge(sheet.as_ptr(), sheet.len(), text.as_ptr(), text.len()) }
+}
+
+/// The verdict; an error if the numbers do not go together.
+#[cfg(feature = "judge")]
+pub fn verdict(sheet: &[u8], text: &[u8]) -> Result<Result<Verdict, Refusal>, String> {
+    let judged = judge(sheet, text);
+    match (judged.refusal, judged.place, judged.matches, judged.token) {
+        (0, 0, 1, 0) => Ok(Ok(Verdict::Yes)),
+        (0, 0, 0, token) => Ok(Ok(Verdict::No(token as usize))),
+        (number @ 1.., place, 0, 0) => Ok(Err(Refusal { number, place: place as usize })),
+        _ => Err(format!("the numbers of the verdict do not go together: {judged:?}")),
     }
 }
 

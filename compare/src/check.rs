@@ -8,16 +8,16 @@ use crate::oracle::{self, Panic, Read};
 use crate::random::{self, Dice, Made, noise, white};
 use crate::sheet::{INLINE_COMMENTS, INLINE_ON, NAMES, Reader, Sheet};
 use crate::watched;
-use crate::{compacted, converted, mended, once, pointed, roomed};
+use crate::{compacted, converted, judged, mended, once, pointed, roomed};
 use crate::{show, watched::Height};
 
 #[derive(Default)]
-struct Tally {
+pub struct Tally {
     counts: BTreeMap<(&'static str, String), u64>,
 }
 
 impl Tally {
-    fn add(&mut self, group: &'static str, name: impl Into<String>) {
+    pub fn add(&mut self, group: &'static str, name: impl Into<String>) {
         self.add_many(group, name, 1);
     }
 
@@ -25,14 +25,14 @@ impl Tally {
         *self.counts.entry((group, name.into())).or_default() += count;
     }
 
-    fn print(&self) {
+    pub fn print(&self) {
         let mut last = "";
         for ((group, name), count) in &self.counts {
             if *group != last {
                 println!("{group}:");
                 last = group;
             }
-            println!("  {name:28} {count}");
+            println!("  {name:44} {count}");
         }
     }
 }
@@ -48,6 +48,7 @@ pub fn run(n: u64, seed: u64) -> bool {
     }
     let mut tally = Tally::default();
     let mut lengths = [0; noise::LONGEST + 1];
+    let mut other_text = Vec::new();
     for turn in 0..n {
         let mut dice = Dice::new(seed, turn);
         let made = random::make_any(&mut dice);
@@ -61,11 +62,13 @@ pub fn run(n: u64, seed: u64) -> bool {
                 every_list(&mut tally, &made.bytes, &ample, room)?;
                 every_report(&mut tally, &made.bytes)?;
                 every_length(&mut tally, &made)?;
+                every_prefix(&mut tally, &made.bytes)?;
             }
             if let Some(twin) = converted::twin(&made, &ample) {
                 let how = laid_as_two(&mut tally, &mut dice, &twin)?;
                 tally.add("i converted, then compared", how);
             }
+            foreign(&mut tally, &mut dice, &made.bytes, &ample, &mut other_text)?;
             Ok(how)
         });
         match compared {
@@ -83,7 +86,8 @@ pub fn run(n: u64, seed: u64) -> bool {
     tally.print();
     println!("each length from 0 to {} is met {} times or more", noise::LONGEST, least(&lengths));
     let with = [
-        (cfg!(feature = "convert"), ", every call too"),
+        (cfg!(feature = "judge"), ", every call too"),
+        (cfg!(feature = "convert"), ", every call but the judge of a text too"),
         (cfg!(feature = "mend"), ", every call but the converter too"),
         (cfg!(feature = "room"), ", every call but the mender too"),
         (cfg!(feature = "once"), ", both calls on both engines and the compacting too"),
@@ -131,6 +135,22 @@ fn laid_as_two(tally: &mut Tally, dice: &mut Dice, twin: &Made) -> Result<&'stat
     let ample = model::trial(&twin.bytes, model::AMPLE);
     let room = room(dice, peak(&ample.heights));
     tried(tally, dice, twin, &ample, room).map_err(|said| format!("converted: {said}"))
+}
+
+/// Texts of another formatter for this sheet, which layout may refuse.
+fn foreign(
+    tally: &mut Tally,
+    dice: &mut Dice,
+    bytes: &[u8],
+    ample: &Trial,
+    other: &mut Vec<u8>,
+) -> Result<(), String> {
+    for judged::Told { text, verdict } in judged::judged(dice, bytes, other)? {
+        tally.add("j texts judged", format!("{text}: {verdict}"));
+        tally.add("k judged where layout gives", format!("{}: {verdict}", outcome(&ample.answer)));
+        tally.add("l verdicts", verdict);
+    }
+    Ok(())
 }
 
 fn least(counts: &[u64]) -> u64 {
@@ -374,8 +394,21 @@ fn every_length(tally: &mut Tally, made: &Made) -> Result<(), String> {
         let told = |said| format!("cut to {length}: {said}");
         call_at(cut, &refused, length % 70).map_err(told)?;
         pointed::call_at(cut, &refused, length % 70, length % 12).map_err(told)?;
-        mended::call_at(cut, length % 12).map_err(told)
+        mended::call_at(cut, length % 12).map_err(told)?;
+        judged::call(cut, &bytes[..length % 12]).map_err(told)
     })
+}
+
+/// The Rust laid out with growing prefixes of the tokens, where they are few.
+fn every_prefix(tally: &mut Tally, bytes: &[u8]) -> Result<(), String> {
+    let few = Reader::new(bytes).is_some_and(|reader| reader.head.tokens <= 200);
+    if !few || model::check(bytes).is_err() {
+        return Ok(());
+    }
+    let prefixes = judged::by_prefixes(bytes)?;
+    tally.add("7 tried throughout", "sheets with every prefix");
+    tally.add_many("7 tried throughout", "prefixes", prefixes as u64);
+    Ok(())
 }
 
 fn note(tally: &mut Tally, made: &Made, ample: &Trial, answer: &Answer, how: &'static str) {
@@ -454,7 +487,7 @@ fn word_7(bytes: &[u8], ample: &Answer) -> String {
     }
 }
 
-fn outcome(answer: &Answer) -> String {
+pub fn outcome(answer: &Answer) -> String {
     match answer {
         Answer::Laid { .. } => "text".into(),
         Answer::Refused(refusal) => format!("refusal {}", refusal.number),

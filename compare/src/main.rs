@@ -7,6 +7,7 @@ mod call;
 mod check;
 mod compacted;
 mod converted;
+mod judged;
 mod mended;
 mod model;
 mod once;

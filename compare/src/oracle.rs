@@ -85,6 +85,20 @@ impl Read<'_> {
         shown.ok()?.iter().map(|shown| self.row(shown)).collect()
     }
 
+    /// What the text has of each token, white bytes taken out, from the watched copy.
+    pub fn pieces(&self) -> Result<Vec<(usize, Vec<u8>)>, Panic> {
+        let (tokens, params, options) = (&self.tokens, &self.params, &self.options);
+        caught(|| {
+            let text = crate::watched_formatter::format(tokens, params, options);
+            let solid: String = text.chars().filter(|c| !c.is_whitespace()).collect();
+            let ends = text.solids.iter().skip(1).map(|&(_, end)| end).chain([solid.len()]);
+            let piece = |(&(token, start), end): (&(usize, usize), usize)| {
+                (token, solid.as_bytes()[start..end].to_vec())
+            };
+            text.solids.iter().zip(ends).map(piece).collect()
+        })
+    }
+
     fn row(&self, &Shown { token, address, stretch }: &Shown) -> Option<Row> {
         let own = address == self.tokens[token].value.as_ptr();
         let entry = match &self.params {

@@ -308,7 +308,7 @@ fn bounds(dice: &mut Dice, inline: Inline) -> Made {
 }
 
 /// Places one after another, shared, overlapping or with gaps, or each by chance.
-fn encode(dice: &mut Dice, sheet: &Sheet) -> Vec<u8> {
+pub fn encode(dice: &mut Dice, sheet: &Sheet) -> Vec<u8> {
     let manner = dice.below(5);
     sheet.encode(&mut |body: &mut Vec<u8>, value: &[u8]| {
         let manner = if manner == 4 { dice.below(4) } else { manner };

@@ -3,7 +3,7 @@
 use std::path::Path;
 use std::{fs, io};
 
-use crate::model::{self, Answer, Change, Refusal};
+use crate::model::{self, Answer, Change, Refusal, Verdict};
 use crate::sheet::*;
 use crate::table;
 
@@ -109,6 +109,7 @@ const SHORT: &[Piece] = &[
 ];
 
 const LIST: &[(&str, &str)] = &[("", "48213"), ("", "7")];
+const NAMES: &[(&str, &str)] = &[("call", "48213"), ("line", "7")];
 
 /// As the source's lexer reads a placeholder's key.
 fn key(value: &str) -> Key {
@@ -201,9 +202,24 @@ fn samples() -> Vec<Sample> {
          `FROM` is now a Word like any other, and the letter a `?`.",
         filled(of(INDEXED), MODE_INDEXED, LIST),
     ));
+    samples.push(sample(
+        PASTED,
+        "With two texts that stations' own tools made of the query. \
+         `target/bin/judge_sheet samples/pasted.sheet < samples/pasted.same` says of each whether it shows what is \
+         due, wherever its blanks and lines are; in `pasted.other` the two values are exchanged.",
+        with(filled(of(NAMED), MODE_NAMED, NAMES), |o| o.case = 1),
+    ));
     samples.extend(refused());
     samples
 }
+
+/// The sample with texts of another formatter.
+const PASTED: &str = "pasted";
+
+const PASTES: [(&str, &str); 2] = [
+    ("same", "SELECT note FROM notes\nWHERE  call_id=48213\n  AND  line=7\n  AND  desk=:desk\n"),
+    ("other", "SELECT note FROM notes\nWHERE  call_id=7\n  AND  line=48213\n  AND  desk=:desk\n"),
+];
 
 /// The sample with the `inline` that is withdrawn.
 const STORED: &str = "stored";
@@ -239,8 +255,7 @@ fn stray_bits(sheet: &mut [u8]) {
 
 fn placeholders() -> [Sample; 4] {
     let sample = |name, about, sheet| Sample { name, about, sheet };
-    let names = &[("call", "48213"), ("line", "7")];
-    let named = with(filled(of(NAMED), MODE_NAMED, names), |o| o.case = 1);
+    let named = with(filled(of(NAMED), MODE_NAMED, NAMES), |o| o.case = 1);
     [
         sample(
             "indexed",
@@ -303,6 +318,20 @@ fn printed(answer: &Answer) -> String {
 /// What the mending program prints on standard error.
 fn reported(changes: &[Change]) -> String {
     changes.iter().map(|[at, old, new]| format!("{at}: {old} becomes {new}\n")).collect()
+}
+
+/// What the judging program prints.
+fn said(sheet: &Sheet, text: &str) -> String {
+    match model::judge(&sheet.encode(&mut in_turn), text.as_bytes()) {
+        Ok(Verdict::Yes) => "yes\n".into(),
+        Ok(Verdict::No(token)) => match sheet.tokens.get(token) {
+            Some(found) => {
+                format!("no at token {token}: {}\n", String::from_utf8_lossy(&found.value))
+            }
+            None => "no: the text has more than the sheet\n".into(),
+        },
+        Err(Refusal { number, place }) => format!("refused {number} at {place}\n"),
+    }
 }
 
 fn listed(items: impl Iterator<Item = String>) -> String {
@@ -390,6 +419,11 @@ fn write(folder: &Path) -> io::Result<()> {
             page += &mending(&report, &printed(&table::judged(&new, ROOM)));
             fs::write(folder.join(sample.name).with_extension("mended"), new)?;
             fs::write(folder.join(sample.name).with_extension("report"), report)?;
+        }
+        for (name, paste) in PASTES.into_iter().filter(|_| sample.name == PASTED) {
+            let verdict = block(&said(&sample.sheet, paste));
+            page += &format!("\n`pasted.{name}`\n\n{}\nis judged\n\n{verdict}", block(paste));
+            fs::write(folder.join(sample.name).with_extension(name), paste)?;
         }
         fs::write(folder.join(sample.name).with_extension("sheet"), bytes)?;
         fs::write(folder.join(sample.name).with_extension("text"), text)?;

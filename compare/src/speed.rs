@@ -15,6 +15,8 @@ mod compact;
 #[cfg(feature = "convert")]
 mod convert;
 mod costly;
+#[cfg(feature = "judge")]
+mod judge;
 #[cfg(feature = "mend")]
 mod mend;
 #[cfg(feature = "once")]
@@ -66,6 +68,8 @@ pub fn run(seed: u64, part: &str) -> bool {
     mend::run(part);
     #[cfg(feature = "convert")]
     convert::run(part);
+    #[cfg(feature = "judge")]
+    judge::run(seed, part);
     true
 }
 

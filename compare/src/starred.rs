@@ -1,10 +1,11 @@
 //! Document 01's fourteen sheets, each with every variant and buffer that it names; further ones;
 //! those on word 7 at 2, which the Rust has not; those whose rows are known; those whose
-//! compacted sheet is; those whose room is; damaged ones whose changes are; and those around word 7 at 1,
-//! which is withdrawn.
+//! compacted sheet is; those whose room is; damaged ones whose changes are; those around word 7 at 1,
+//! which is withdrawn; and those with texts of another formatter.
 
 mod compact;
 mod convert;
+mod judge;
 mod mend;
 mod room;
 mod rows;
@@ -32,8 +33,12 @@ fn text(lines: &[&str]) -> Answer {
     Answer::Laid { text: lines.join("\n").into(), lines: lines.len(), width }
 }
 
+fn refusal_at(number: u32, place: usize) -> Refusal {
+    Refusal { number, place }
+}
+
 fn refusal(number: u32, place: usize) -> Answer {
-    Answer::Refused(Refusal { number, place })
+    Answer::Refused(refusal_at(number, place))
 }
 
 fn of(tokens: &[(u8, &str)]) -> Sheet {
@@ -391,7 +396,8 @@ pub fn run() -> bool {
     let room = room::run();
     let mended = mend::run();
     let converted = convert::run();
-    let later = rows && compacted && room && mended && converted;
+    let judged = judge::run();
+    let later = rows && compacted && room && mended && converted && judged;
     sheets && further && comments && tabs && later && head()
 }
 

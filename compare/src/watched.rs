@@ -65,6 +65,10 @@ pub struct String {
     text: std::string::String,
     pub heights: Vec<Height>,
     pub shown: Vec<Shown>,
+    /// The bytes that are not white.
+    solid: usize,
+    /// How many there were before each token.
+    pub solids: Vec<(usize, usize)>,
 }
 
 pub struct Trimmed<'a>(&'a String);
@@ -84,15 +88,18 @@ impl String {
         TOKEN.set(token);
         let end = self.text.len();
         self.heights.push(Height { token, peak: end, end });
+        self.solids.push((token, self.solid));
     }
 
     pub fn push(&mut self, c: char) {
         self.text.push(c);
+        self.solid += usize::from(!c.is_whitespace());
         self.note();
     }
 
     pub fn push_str(&mut self, s: &str) {
         self.text.push_str(s);
+        self.solid += solid(s);
         self.note();
     }
 
@@ -105,6 +112,7 @@ impl String {
     }
 
     pub fn truncate(&mut self, length: usize) {
+        self.solid -= solid(&self.text[length..]);
         self.text.truncate(length);
         self.shown.iter_mut().for_each(|shown| shown.stretch.clip(length));
         self.note();
@@ -129,8 +137,13 @@ impl Trimmed<'_> {
         let end = worked.trim_end().len();
         let mut shown = self.0.shown.clone();
         shown.iter_mut().for_each(|shown| shown.stretch.trim(end - text.len(), end));
-        String { text, heights: self.0.heights.clone(), shown }
+        let (heights, solids) = (self.0.heights.clone(), self.0.solids.clone());
+        String { text, heights, shown, solid: self.0.solid, solids }
     }
+}
+
+fn solid(s: &str) -> usize {
+    s.chars().filter(|c| !c.is_whitespace()).count()
 }
 
 impl Deref for String {

@@ -42,7 +42,7 @@ fn body(most: u32, fill: u8, odd: u32, other: u8) -> Vec<u8> {
 }
 
 /// 1,024 placeholders and 256 entries, no name the same: they differ at `odd` first.
-fn names(length: u32, odd: u32) -> Costly {
+pub fn names(length: u32, odd: u32) -> Costly {
     Costly {
         mode: MODE_NAMED,
         tokens: vec![[u32::from(PLACEHOLDER) | 1 << 5, 0, 1, 0, length]; 1024],
@@ -53,7 +53,7 @@ fn names(length: u32, odd: u32) -> Costly {
 }
 
 /// 1,024 white reserved words and 64 keep words, none the same.
-fn keep_words(length: u32, odd: u32) -> Costly {
+pub fn keep_words(length: u32, odd: u32) -> Costly {
     Costly {
         options: Options { case: 1, ..Options::default() },
         tokens: vec![token(RESERVED, 0, length); 1024],

@@ -17,6 +17,8 @@ ghost use Rattle.mended.specs.Mended.{mend as mendOf, mendOutcome, sheetAfter, 
 ghost use Rattle.mended.specs.Mends.{Mends};
 ghost use Rattle.converted.specs.Converted.{convert as convertOf, convertOutcome, sheetAfter as convertedSheet};
 ghost use Rattle.converted.specs.Converts.{Converts, Stored};
+ghost use Rattle.foreign.specs.Foreign.{judge as judgeOf, judgedOf};
+ghost use Rattle.foreign.specs.Judges.{Judges};
 ghost use Rattle.records.specs.Sheeted.{Sheeted};
 ghost use Rattle.head.specs.Head.{defaultHead, rustHead, headWritten, headReturned};
 ghost use Rattle.rules.specs.Words.{bodyAt};
@@ -24,6 +26,7 @@ ghost use Rattle.table.specs.Table.{Filled};
 ghost use Rattle.twigmantle.specs.Called.{calledAs, listCalled};
 ghost use Rattle.twigmantle.specs.Enough.{Enough};
 ghost use Rattle.twigmantle.specs.Once.{lacksTable, onceAs, listOnceAs, once, onceListed, onceList};
+use foreign::Judged;
 use rules::Checked;
 use rules::Counts;
 use rules::Outcome;
@@ -315,6 +318,15 @@ pub extern "C" fn twigmantle_convert(sheet: &mut [u8]) -> Outcome
     ensures { λ r. ⌜ Converts (now (sheet .entry)) r (now (sheet .exit)) ⌝ }
 {
     convert::convert(sheet)
+}
+
+// The judging call: whether a text, laid out by any tool, is what is due of the sheet, white bytes taken out; if not, from which token on.
+#[no_mangle]
+pub extern "C" fn twigmantle_judge(sheet: &[u8], text: &[u8]) -> Judged
+    ensures { λ r. ⌜ r ≡ judgedOf (judgeOf (now (sheet .entry)) (now (text .entry))) ⌝ }
+    ensures { λ r. ⌜ Judges (now (sheet .entry)) (now (text .entry)) r ⌝ }
+{
+    judge::judge(sheet, text)
 }
 
 // The default head: 48 bytes and zero after them; zero alone in a slice under 48.

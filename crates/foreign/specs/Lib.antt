@@ -1,0 +1,7 @@
+pub mod Foreign
+pub mod Judgings
+pub mod Walk
+pub mod Judges
+pub mod Call
+pub mod Low
+pub mod Laid

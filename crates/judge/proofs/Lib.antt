@@ -1,0 +1,3 @@
+pub mod DueLaws
+pub mod TokenLaws
+pub mod CallLaws

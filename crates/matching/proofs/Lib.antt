@@ -1,0 +1,2 @@
+pub mod HighLaws
+pub mod ReadLaws
