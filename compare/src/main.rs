@@ -12,6 +12,7 @@ mod mended;
 mod model;
 mod once;
 mod oracle;
+mod pairs;
 mod pointed;
 mod random;
 mod roomed;
@@ -76,6 +77,7 @@ pub(crate) struct SpanInfo {
 }
 
 const USAGE: &str = "compare check N SEED
+compare pairs N SEED [empty | first | last]
 compare table N SEED FIRST
 compare list N SEED
 compare show FILE [ROOM]
@@ -111,6 +113,11 @@ fn main() -> ExitCode {
 fn run(words: &[&str]) -> Option<bool> {
     match words {
         ["check", n, seed] => Some(check::run(n.parse().ok()?, seed.parse().ok()?)),
+        ["pairs", n, seed] => Some(pairs::run(n.parse().ok()?, seed.parse().ok()?, None)),
+        ["pairs", n, seed, dropped] => {
+            let dropped = Some(pairs::premise(dropped)?);
+            Some(pairs::run(n.parse().ok()?, seed.parse().ok()?, dropped))
+        }
         ["table", n, seed, first] => {
             Some(table::table(n.parse().ok()?, seed.parse().ok()?, first.parse().ok()?))
         }
