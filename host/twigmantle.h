@@ -42,7 +42,7 @@ struct twigmantle_report twigmantle_layout(const uint8_t *sheet, size_t n, uint8
  * TWIGMANTLE_ROW_WORDS words (enum twigmantle_row) for each placeholder laid out, in the order of the tokens, and zero after the last row. A placeholder that is
  * switched off or dropped has no row. On a refusal the whole list is zero.
  *
- * Refusal 10 is this call's alone: fewer words than all those rows need. It comes after 4 and 14, and before any token is laid out: it counts the placeholders after a
+ * Refusal 10 is for a list, here and in twigmantle_layout_rows_once: fewer words than all those rows need. It comes after 4 and 14, and before any token is laid out: it counts the placeholders after a
  * token that would be refused too. A list of TWIGMANTLE_MOST_LIST words is never too short. words 0, and rows may be null: serves a sheet that has no placeholder to
  * lay out; for any other 10 at 0. n 0 and room 0 are as above.
  *
@@ -161,7 +161,7 @@ enum twigmantle_refusal {
     /* 7 is not given: no sheet meets it */
     TWIGMANTLE_REFUSAL_FOLDED = 8, /* a folded block closed with no unfolded entry left */
     TWIGMANTLE_REFUSAL_ROOM = 9,   /* the working text would be longer than the buffer */
-    TWIGMANTLE_REFUSAL_LIST = 10,  /* fewer than TWIGMANTLE_ROW_WORDS words for each placeholder to be laid out; place 0; of twigmantle_layout_rows alone */
+    TWIGMANTLE_REFUSAL_LIST = 10,  /* fewer than TWIGMANTLE_ROW_WORDS words for each placeholder to be laid out; place 0; of the two layout calls with a list */
     TWIGMANTLE_REFUSAL_SHEET = 11, /* a buffer shorter than the new sheet; place 0; of twigmantle_compact alone */
     TWIGMANTLE_REFUSAL_TABLE = 12, /* fewer than TWIGMANTLE_TABLE_WORDS words for each token; place 0; of the calls that read ahead once */
     TWIGMANTLE_REFUSAL_REPORT = 13, /* fewer than TWIGMANTLE_CHANGE_WORDS words for each change; place 0; of twigmantle_mend alone */
@@ -208,7 +208,7 @@ enum twigmantle_most {
     TWIGMANTLE_MOST_BYTE = 127,   /* in the bodies */
     TWIGMANTLE_MOST_SPACES = 255, /* word TWIGMANTLE_HEAD_INDENT; one more is TWIGMANTLE_INDENT_TABS */
     TWIGMANTLE_MOST_LINES = 255,  /* word TWIGMANTLE_HEAD_LINES */
-    TWIGMANTLE_MOST_DEPTH = 128,  /* entries on the indent stack; open inline blocks */
+    TWIGMANTLE_MOST_DEPTH = 128,  /* entries on the indent stack */
     TWIGMANTLE_MOST_LIST = 5120,  /* words of a list with a row for each of TWIGMANTLE_MOST_TOKENS */
     TWIGMANTLE_MOST_TABLE = 6144, /* words of a table for as many tokens */
     TWIGMANTLE_MOST_SHEET = 57904, /* bytes of a sheet with every count at its bound */
