@@ -1,6 +1,6 @@
 -- Laws of the stacks. Assumes nothing.
 use mathlib.Core.Path.{_≡_, refl, sym, ap, _∙_}
-use mathlib.Core.Bool.{Bool, true, false, _&&_}
+use mathlib.Core.Bool.{Bool, true, false, _&&_, not}
 use mathlib.Core.Logic.{_⊎_, ⊎-elim}
 use mathlib.Core.List.{List, [], _∷_, map, tail}
 use Prim.Native.Nat.{ℕ, zero, suc, _+_, _-_, _≤_, _<_}
@@ -11,7 +11,7 @@ use native.Mathlib.Numerals.{add-one}
 use lib.Dec.{eqb, leb, ltb}
 use lib.ListN.{length, getD, set, replicate, length-map}
 use lib.Seq.{getD-set-same, set-getD}
-use borrow.Author.Tests.{le-leb, lt-leb, ne-eqb, eqb-true, ltb-true, ltb-false, lt-ltb}
+use borrow.Author.Tests.{le-leb, lt-leb, ne-eqb, eqb-true, ltb-true, ltb-false, lt-ltb, leb-false}
 use Rattle.rules.specs.declared.IndentType.{IndentType}
 use Rattle.rules.specs.declared.IndentType.the-variants.{Top, Block, FoldedBlock}
 use Rattle.rules.specs.declared.SpanInfo.{SpanInfo}
@@ -638,6 +638,28 @@ module _ (i : Code) (c : Clean i) where
   unfolding indentLevel indentationOf
   by-level n true e = let h = level-within i c in (e ∙ ap (λ (m : ℕ). m - 1) (c .counted), omega arith)
   by-level n false e = let h = level-within i c in (e ∙ c .counted ∙ sym (sub-zero (unfolded (typesOf i))), omega arith)
+
+  pub by-level-into : (folded f b : Bool) (n : ℕ) → f ≡ full (indentationOf i .indentTypes) → b ≡ (not folded && not f) → n ≡ (if b then i .level + 1 else i .level)
+      → (n ≡ indentLevel false (increaseBlockLevel folded (indentationOf i))) × (n ≤ 128)
+  unfolding indentLevel indentationOf increaseBlockLevel unfolded full
+  by-level-into folded true b n ef eb en =
+      let h = level-within i c in
+      let e : n ≡ i .level = rw (eb, none-more folded) at en in
+      (rw (← ef) (e ∙ c .counted ∙ sym (sub-zero (unfolded (typesOf i)))), omega arith)
+    where
+      none-more : (folded : Bool) → (not folded && false) ≡ false
+      none-more true = refl
+      none-more false = refl
+  by-level-into true false b n ef eb en =
+      let h = level-within i c in
+      let e : n ≡ i .level = rw eb at en in
+      (rw (← ef) (e ∙ c .counted ∙ sym (sub-zero (unfolded (typesOf i)))), omega arith)
+  by-level-into false false b n ef eb en =
+      let t = unfolded-within (typesOf i) in
+      let k = leb-false 128 (length (typesOf i)) (sym ef) in
+      let w = c .counted in
+      let e : n ≡ suc (unfolded (typesOf i)) = rw eb at en ∙ omega arith in
+      (rw (← ef) (e ∙ sym (sub-zero (suc (unfolded (typesOf i))))), omega arith)
 
 -- ---- the loop that pops a block
 

@@ -1,5 +1,6 @@
 // indentation.rs: the stacks of indent kinds, spans and previous words, by value.
 ghost use mathlib.Core.Path.{_≡_};
+ghost use mathlib.Core.Bool.{false};
 ghost use Prim.Native.Nat.{_+_, _-_, _≤_, _<_};
 ghost use lib.Dec.{eqb};
 ghost use Rattle.rules.specs.Indentation.{noIndentation, indentLevel, increaseTopLevel, increaseBlockLevel, decreaseTopLevel, decreaseBlockLevel, setPreviousReserved, setPreviousTopLevel, previousTopLevelReserved, span as spanOf};
@@ -371,6 +372,15 @@ impl Indentation {
         ensures { λ r. ⌜ r ≡ full (indentationOf self .indentTypes) ⌝ }
     {
         128 <= self.nkinds
+    }
+
+    // The level that `increase_block_level` leads to: a handler has it before the arrays change.
+    pub fn level_into(self, folded: bool) -> usize
+        requires { ⌜ Clean self ⌝ }
+        ensures { λ r. ⌜ (r ≡ indentLevel false (increaseBlockLevel folded (indentationOf self))) × (r ≤ 128) ⌝ }
+    {
+        let counts = both(!folded, !self.is_full());
+        more_if(counts, self.level)
     }
 
     pub fn indent_level(self, folded: bool) -> usize
