@@ -1,6 +1,6 @@
 -- Laws of the count of columns. Assumes nothing.
 use mathlib.Core.Path.{_≡_, refl, sym, ap, ap₂, _∙_}
-use mathlib.Core.Bool.{Bool, true, false, _&&_, _||_, false≢true}
+use mathlib.Core.Bool.{Bool, true, false, _||_}
 use mathlib.Core.List.{List, [], _∷_, _++_}
 use Prim.Native.Nat.{ℕ, zero, suc, _+_, _-_, _*_, _/_, _≤_, _<_, max}
 use native.Mathlib.Numerals.{add-one}
@@ -9,12 +9,12 @@ use lib.Bits.{bitOr, bitXor}
 use lib.Dec.{eqb}
 use lib.ListN.{length, take, drop, getD, length-replicate, getD-replicate, replicate-append-replicate}
 use lib.Seq.{take-all}
-use borrow.Author.Tests.{eq-eqb, ne-eqb, eqb-true}
+use borrow.Author.Tests.{eq-eqb, ne-eqb}
 use Rattle.rules.specs.Base.{if_then_else_, same}
 use Rattle.rules.specs.Text.{columnAfter, widthFrom, width}
 use Rattle.ascii.specs.Part.{part, has}
 use Rattle.ascii.proofs.PartLaws.{length-part, part-more, part-next, part-end}
-use Rattle.ascii.proofs.RunLaws.{told-more}
+use Rattle.ascii.proofs.RunLaws.{told-more, same-true}
 use Rattle.ascii.proofs.FindLaws.{has-both}
 use Rattle.report.specs.declared.Measure.{Measure}
 use Rattle.report.specs.Measured.{oneOn, measure, onward, tabs}
@@ -122,16 +122,6 @@ by-tabs d start n i all b c e =
     let l : length (tabs n) ≤ n = rw (length-replicate {A = ℕ} n 9) (omega arith) in
     let f : eqb all 0 ≡ same (part d start n) (take n (tabs n)) = rw k at e in
     f ∙ ap (same (part d start n)) (take-all n (tabs n) l)
-
-same-true : (v w : List ℕ) → same v w ≡ true → v ≡ w
-same-true [] [] h = refl
-same-true [] (y ∷ ys) h = absurd (false≢true h)
-same-true (x ∷ xs) [] h = absurd (false≢true h)
-same-true (x ∷ xs) (y ∷ ys) h = go (eqb x y) refl h (same-true xs ys)
-  where
-    go : (b : Bool) → eqb x y ≡ b → (b && same xs ys) ≡ true → (same xs ys ≡ true → xs ≡ ys) → x ∷ xs ≡ y ∷ ys
-    go true e h f = rw (eqb-true x y e, f h)
-    go false e h f = absurd (false≢true h)
 
 pub by-more-tabs : (d : List ℕ) (start i k : ℕ) (b : Bool) → b ≡ same (part d (start + i) k) (tabs k) → b ≡ true → part d start i ≡ tabs i → part d start (i + k) ≡ tabs (i + k)
 by-more-tabs d start i k b e f g =
