@@ -57,13 +57,10 @@ pub fn sheets() -> Vec<Case> {
         at("tabs and line feeds in turn", "a".to_owned() + &"\t\n".repeat(100) + "b", 101, 8),
         at("letters and tabs in turn", "a\t".repeat(100) + "b", 1, 801),
     ];
-    cases.extend(
-        (60..=72).flat_map(|n| [after_feeds(2, n, 3), after_feeds(1, n, 2), after_feeds(5, n, 6)]),
-    );
-    cases.extend(
-        (7..=11)
-            .flat_map(|n| [after_lines(7, n, 8), after_lines(9, n, 10), after_lines(1, 4 * n, 2)]),
-    );
-    cases.extend([15, 16, 17, 31, 32, 33, 63, 64, 65].map(|n| after_lines(n, 3, n + 1)));
+    let lengths = || 1..=17;
+    cases.extend((60..=72).flat_map(|n| [after_feeds(1, n, 2), after_feeds(2, n, 3)]));
+    cases.extend(lengths().flat_map(|n| [20, 64, 70].map(|feeds| after_feeds(n, feeds, n + 1))));
+    cases.extend(lengths().flat_map(|n| [3, 8, 20].map(|count| after_lines(n, count, n + 1))));
+    cases.extend([31, 32, 33, 63, 64, 65].map(|n| after_lines(n, 3, n + 1)));
     cases
 }
