@@ -5,6 +5,7 @@ mod brim;
 mod comments;
 mod damage;
 mod edited;
+mod lines;
 pub mod noise;
 pub mod query;
 mod soup;
@@ -103,6 +104,7 @@ pub enum Maker {
     Comments,
     Values,
     Tabs,
+    Lines,
     Edited,
     Bent,
 }
@@ -133,6 +135,9 @@ pub fn make_any(dice: &mut Dice) -> Made {
     }
     if dice.one_in(12) {
         return make_with(dice, Maker::Tabs, Size::Any, Inline::Any);
+    }
+    if dice.one_in(16) {
+        return make_with(dice, Maker::Lines, Size::Any, Inline::Any);
     }
     if dice.one_in(12) {
         return make_with(dice, Maker::Edited, Size::Any, Inline::Any);
@@ -192,6 +197,7 @@ pub fn make_with(dice: &mut Dice, maker: Maker, size: Size, inline: Inline) -> M
         | Maker::Flipped
         | Maker::White
         | Maker::Tabs
+        | Maker::Lines
         | Maker::Edited
         | Maker::Bent => dice.pick(&USUAL[..13]),
         other => other,
@@ -203,6 +209,9 @@ pub fn make_with(dice: &mut Dice, maker: Maker, size: Size, inline: Inline) -> M
     }
     if maker == Maker::Tabs {
         sheet = tabs::tabbed(dice, sheet);
+    }
+    if maker == Maker::Lines {
+        sheet = lines::lined(dice, sheet);
     }
     let bytes = encode(dice, &sheet);
     match maker {
@@ -248,6 +257,7 @@ fn name(maker: Maker) -> &'static str {
         Maker::Comments => "comments",
         Maker::Values => "values",
         Maker::Tabs => "tabs",
+        Maker::Lines => "lines",
         Maker::Edited => "edited",
         Maker::Bent => "bent",
     }

@@ -6,6 +6,7 @@
 mod compact;
 mod convert;
 mod judge;
+mod lines;
 mod mend;
 mod room;
 mod rows;
@@ -390,7 +391,7 @@ pub fn run() -> bool {
     let sheets = count(parts.into_iter().flatten().collect(), "document 01's sheets");
     let further = count(further_parts().into_iter().flatten().collect(), "further sheets");
     let comments = count(comment_sheets(), "line comments at word 7 = 0, 1, 2");
-    let tabs = count(tab_sheets(), "tabs");
+    let tabs = count(tab_sheets(), "tabs") && count(lines::sheets(), "many lines");
     let rows = rows::run();
     let compacted = compact::run();
     let room = room::run();

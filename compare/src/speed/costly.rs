@@ -184,11 +184,23 @@ pub fn sheets() -> Vec<(String, Costly)> {
         ),
     ]);
     let after = [token(WORD, 6, 1), run_of(WORD, 10)];
-    sheets.push(("line feeds after words".into(), turns(plain, &after, 1023, text, b'\n')));
-    let mut narrow = turns(plain, &after, 1023, text, b'\n');
-    narrow.body[10..].iter_mut().step_by(2).for_each(|byte| *byte = b'a');
-    sheets.push(("lines of one byte".into(), narrow));
-    sheets.push(("tabs after words".into(), turns(plain, &after, 1023, text, b'\t')));
+    let filled = |byte: &dyn Fn(usize) -> u8| {
+        let mut costly = turns(plain, &after, 1023, text, b'\n');
+        costly.body[10..].iter_mut().enumerate().for_each(|(at, old)| *old = byte(at));
+        costly
+    };
+    sheets.push(("line feeds after words".into(), filled(&|_| b'\n')));
+    sheets.push(("lines of one byte".into(), filled(&|at| if at % 2 == 0 { b'a' } else { b'\n' })));
+    sheets
+        .push(("lines of five bytes".into(), filled(&|at| if at % 6 < 5 { b'a' } else { b'\n' })));
+    let ends = |at: usize| at.wrapping_mul(2_654_435_761) >> 7 & 15 == 0;
+    sheets
+        .push(("lines of mixed length".into(), filled(&|at| if ends(at) { b'\n' } else { b'a' })));
+    sheets.push(("tabs after words".into(), filled(&|_| b'\t')));
+    sheets.push((
+        "tabs and letters in turn".into(),
+        filled(&|at| if at % 2 == 0 { b'\t' } else { b'a' }),
+    ));
     let lines = Costly {
         body: b"\n x".iter().copied().cycle().take(LONG as usize).collect(),
         tokens: vec![token(BLOCK_COMMENT, 0, LONG); 64],

@@ -9,7 +9,7 @@ use lib.ListN.{length, take, drop, getD, length-take, length-drop, drop-of-lengt
 use lib.Seq.{take-suc, take-nil, take-add, drop-cons, drop-drop, getD-take, getD-drop}
 use Rattle.ascii.specs.Part.{part}
 
-drop-take : (j n : ℕ) (l : List ℕ) → drop j (take n l) ≡ take (n - j) (drop j l)
+pub drop-take : (j n : ℕ) (l : List ℕ) → drop j (take n l) ≡ take (n - j) (drop j l)
 drop-take zero n l = rw sub-zero
 drop-take (suc j) zero l = let e : 0 - suc j ≡ 0 = omega arith in rw e
 drop-take (suc j) (suc n) [] = sym (take-nil (suc n - suc j))

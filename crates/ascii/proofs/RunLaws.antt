@@ -1,12 +1,12 @@
 -- Laws of the comparison of two parts by runs of bytes. Assumes nothing.
 use mathlib.Core.Path.{_≡_, refl, sym, ap, ap₂, _∙_}
-use mathlib.Core.Bool.{Bool, true, false, _&&_}
+use mathlib.Core.Bool.{Bool, true, false, _&&_, false≢true}
 use mathlib.Core.List.{List, [], _∷_, _++_}
 use Prim.Native.Nat.{ℕ, zero, suc, _+_, _-_, _*_, _≤_, _<_}
 use native.Mathlib.Omega.{arith}
 use lib.Bits.{bitOr, bitXor, bitAnd, or-add-and, xor-add-and, and-le-l, and-le-r, xor-self, or-zero-r}
 use lib.Dec.{eqb}
-use lib.ListN.{length, take, drop, getD}
+use lib.ListN.{length, take, drop, getD, replicate}
 use borrow.Author.Tests.{eq-eqb, ne-eqb, eqb-true, eqb-false}
 use Rattle.rules.specs.Base.{same}
 use Rattle.ascii.specs.Part.{part, number, Bytes}
@@ -66,6 +66,27 @@ by-eight s o a b x y h g u v =
     let l = length-part s a 8 h in
     let r = length-part o b 8 g in
     rw (u .0, v .0) (by-number (part s a 8) (part o b 8) (omega arith) (u .1) (v .1))
+
+bytes-replicate : (n b : ℕ) → b < 256 → Bytes (replicate n b)
+bytes-replicate zero b h = tt
+bytes-replicate (suc n) b h = (h, bytes-replicate n b h)
+
+pub by-eight-blanks : (s : List ℕ) (a x : ℕ) → a + 8 ≤ length s → (x ≡ number (part s a 8)) × Bytes (part s a 8)
+    → eqb x 2314885530818453536 ≡ same (part s a 8) (replicate 8 32)
+by-eight-blanks s a x h u =
+    let l = length-part s a 8 h in
+    rw (u .0) (by-number (part s a 8) (replicate 8 32) l (u .1) (bytes-replicate 8 32 (omega arith)))
+
+-- two lists that are the same are one
+pub same-true : (v w : List ℕ) → same v w ≡ true → v ≡ w
+same-true [] [] h = refl
+same-true [] (y ∷ ys) h = absurd (false≢true h)
+same-true (x ∷ xs) [] h = absurd (false≢true h)
+same-true (x ∷ xs) (y ∷ ys) h = go (eqb x y) refl h (same-true xs ys)
+  where
+    go : (b : Bool) → eqb x y ≡ b → (b && same xs ys) ≡ true → (same xs ys ≡ true → xs ≡ ys) → x ∷ xs ≡ y ∷ ys
+    go true e h f = rw (eqb-true x y e, f h)
+    go false e h f = absurd (false≢true h)
 
 -- ---- parts of parts
 

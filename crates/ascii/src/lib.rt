@@ -4,7 +4,7 @@ ghost use mathlib.Core.Path.{_≡_};
 ghost use mathlib.Core.Bool.{_||_};
 ghost use Prim.Native.Nat.{_+_, _≤_, _<_};
 ghost use lib.Dec.{eqb};
-ghost use lib.ListN.{length};
+ghost use lib.ListN.{length, replicate};
 ghost use Rattle.rules.specs.Base.{if_then_else_, same};
 ghost use Rattle.rules.specs.Text.{isBlank, isWhite, toUpper, toLower, byteInCase, inCase, isLower};
 ghost use Rattle.ascii.specs.Part.{part, number, Bytes, has, before};
@@ -128,6 +128,14 @@ fn same_eight(src: &[u8], start: usize, other: &[u8], from: usize) -> bool
     ensures { λ r. ⌜ r ≡ same (part (now (src .entry)) start 8) (part (now (other .entry)) from 8) ⌝ }
 {
     eight_at(src, start) == eight_at(other, from)
+}
+
+// Whether eight blanks stand there, each a byte 32: as one number they are this one.
+pub fn eight_blanks(src: &[u8], at: usize) -> bool
+    requires { ⌜ at + 8 ≤ length (now src) ⌝ }
+    ensures { λ r. ⌜ r ≡ same (part (now (src .entry)) at 8) (replicate 8 32) ⌝ }
+{
+    eight_at(src, at) == 2314885530818453536
 }
 
 // No branch for each byte, so that a run of a fixed length is compared many bytes at a time.

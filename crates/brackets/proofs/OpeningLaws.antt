@@ -163,7 +163,7 @@ module _ (s : List ℕ) (x : Context) (i : ℕ) (st : Code) (d : List ℕ) (read
       → inlined ≡ beginsInline (x .options) info blocks
       → folded ≡ foldedIn s x i inlined stacks
       → Stands (increaseBlockLevel folded stacks) into
-      → level ≡ indentLevel false (indentationOf into)
+      → level ≡ indentLevel false (increaseBlockLevel folded stacks)
       → how ≡ openingIn s x i stacks inlined folded level
       → begun ≡ (inlined && not (how .six))
       → Laid (length d) (opening (length d) (x .options) how (bracketIn s x i) (textOf (st .text) d)) t q
@@ -175,4 +175,4 @@ module _ (s : List ℕ) (x : Context) (i : ℕ) (st : Code) (d : List ℕ) (read
       (opening (length d) (x .options) how (bracketIn s x i) (textOf (st .text) d))
       (increaseBlockLevel folded stacks) (beginIfPossible begun (info .length) blocks) (st .«block_level» + 1) t into l q
       laid stands (block-below (i + 1) stacks (below-up (omega arith) (ready .steady .words)) folded) inline (omega arith)
-      (rw (eb, eh) (opening-rule info inlined folded level en ef (el ∙ ap (indentLevel false) (stands .is))))
+      (rw (eb, eh) (opening-rule info inlined folded level en ef el))

@@ -137,15 +137,15 @@ pub fn format_opening_parentheses(
     let o = x.options;
     let inlined = begins_inline(o, info, inline);
     let folded = is_folded(sheet, x, i, inlined, stacks);
-    let into = stacks.increase_block_level(folded);
-    let level = into.indent_level(false);
+    let level = stacks.level_into(folded);
     let how = opening_at(sheet, x, i, stacks, inlined, folded, level);
     // Where refusal 6 is given no block begins.
     let begins = both(inlined, !how.six);
     let t = s.text;
+    // The stacks change last: with the text's work between, the compiler copies arrays that stay as they are.
     State {
         text: push_opening(query, t, sheet, x, i, how),
-        indentation: into,
+        indentation: stacks.increase_block_level(folded),
         inline_block: inline.begin_if_possible(begins, info.length),
         block_level: s.block_level + 1,
         index: s.index,

@@ -9,7 +9,7 @@ ghost use Rattle.rules.specs.declared.TokenKind.the-variants as kind;
 ghost use Rattle.rules.specs.declared.Sort.the-variants as sort;
 ghost use Rattle.rules.specs.Sheet.{tokenOf, tokensOf};
 ghost use Rattle.rules.specs.Rows.{trimRow, placeholders};
-ghost use Rattle.rows.specs.Listing.{rowsIn, listing, Words};
+ghost use Rattle.rows.specs.Listing.{rowsIn, listing, Listed};
 ghost use Rattle.rules.specs.Span.{sortIn, topLevelTokensInfo};
 ghost use Rattle.rules.specs.InlineBlock.{buildInfo};
 ghost use Rattle.table.specs.Table.{Filled};
@@ -132,7 +132,7 @@ fn finish(query: &mut [u8], rows: &mut [u32], count: usize, t: Text) -> Report
     requires { ⌜ Held t (now query) ⌝ }
     requires { ⌜ t .fault ≡ 0 ⌝ }
     requires { ⌜ length (trimmed (bytesIn (textOf t (now query)))) < 2 ^ 60 ⌝ }
-    requires { ⌜ Words (now rows) count ⌝ }
+    requires { ⌜ Listed (now rows) count ⌝ }
     ensures { λ r. ⌜ ((i : ℕ) → r ≡ reportOf (finishOf i (textOf t (now (query .entry))))) ⌝ }
     ensures { λ r. ⌜ ((i : ℕ) → now (query .exit) ≡ bufferOf (length (now (query .entry))) (finishOf i (textOf t (now (query .entry))))) ⌝ }
     ensures { λ r. ⌜ now (rows .exit) ≡ listing (length (now (rows .entry))) (map (trimRow (bytesIn (textOf t (now (query .entry))))) (rowsIn count (now (rows .entry)))) ⌝ }

@@ -1,6 +1,6 @@
 -- Laws of the stacks. Assumes nothing.
 use mathlib.Core.Path.{_≡_, refl, sym, ap, _∙_}
-use mathlib.Core.Bool.{Bool, true, false, _&&_}
+use mathlib.Core.Bool.{Bool, true, false, _&&_, not}
 use mathlib.Core.Logic.{_⊎_, ⊎-elim}
 use mathlib.Core.List.{List, [], _∷_, map, tail}
 use Prim.Native.Nat.{ℕ, zero, suc, _+_, _-_, _≤_, _<_}
@@ -11,7 +11,7 @@ use native.Mathlib.Numerals.{add-one}
 use lib.Dec.{eqb, leb, ltb}
 use lib.ListN.{length, getD, set, replicate, length-map}
 use lib.Seq.{getD-set-same, set-getD}
-use borrow.Author.Tests.{le-leb, lt-leb, ne-eqb, eqb-true, ltb-true, ltb-false, lt-ltb}
+use borrow.Author.Tests.{le-leb, lt-leb, ne-eqb, eqb-true, ltb-true, ltb-false, lt-ltb, leb-false}
 use Rattle.rules.specs.declared.IndentType.{IndentType}
 use Rattle.rules.specs.declared.IndentType.the-variants.{Top, Block, FoldedBlock}
 use Rattle.rules.specs.declared.SpanInfo.{SpanInfo}
@@ -21,7 +21,7 @@ use Rattle.stacks.specs.Stack.{stack, Kept, withinOf}
 use Rattle.stacks.specs.Laws.{length-stack, stack-push, stack-put, stack-pop, stack-popped, kept-push, kept-put, kept-pop, every-set, kept-none, every-same, same-or, left-of, right-of, unless-both, tail-map}
 use Rattle.indentation.specs.declared.Indentation.{Indentation as Code}
 use Rattle.indentation.specs.declared.Previous.{Previous}
-use Rattle.indentation.specs.Of.{reservedAfter, topLevelAfter, topIn, typeOf, kindFor, wordOf, topOf, previousOf, noPrevious, typesOf, indentationOf, lastOf, tops, endsTop, Told, Clean, Stands, StandsClosed}
+use Rattle.indentation.specs.Of.{reservedAfter, topLevelAfter, topIn, typeOf, kindFor, wordOf, marksOf, topSpan, topOf, previousOf, entry, noPrevious, entryFor, typesOf, indentationOf, lastOf, tops, endsTop, Told, Clean, Stands, StandsClosed}
 
 tops-within : (ts : List IndentType) → tops ts ≤ length ts
 unfolding tops
@@ -67,13 +67,14 @@ unfolding wordOf
 by-token zero z = absurd (z refl)
 by-token (suc n) z = let e : suc n - 1 ≡ n = omega arith in rw e
 
-pub by-told : (b : Bool) (sp : SpanInfo) → b ≡ true → some sp ≡ topOf b sp
+pub by-untold : (m : ℕ) (sp : SpanInfo) → m ≡ 0 → none ≡ topOf m sp
 unfolding topOf
-by-told b sp h = rw h
+by-untold m sp z = rw z
 
-pub by-untold : (b : Bool) (sp : SpanInfo) → b ≡ false → none ≡ topOf b sp
+pub by-told : (m : ℕ) (sp : SpanInfo) → (m ≡ 0 → ⊥) → some sp ≡ topOf m sp
 unfolding topOf
-by-untold b sp h = rw h
+by-told zero sp z = absurd (z refl)
+by-told (suc m) sp z = refl
 
 -- ---- a top-level entry on a list of entries
 
@@ -152,13 +153,42 @@ top-skips d h = go (d .indentTypes) h
 
 -- ---- previous words
 
+-- the span that was put there
+span-back : (w : ℕ) (sp : SpanInfo) → topOf (topLevelAfter w sp .marks) (topSpan (topLevelAfter w sp)) ≡ some sp
+unfolding marksOf topOf
+span-back w sp = go (sp .«newline_before») (sp .«newline_after»)
+  where
+    go : (b d : Bool)
+        → topOf (marksOf b d) (topSpan (entry sp w (marksOf b d)))
+        ≡ some (record { «full_span» = sp .«full_span»; blocks = sp .blocks; «newline_before» = b; «newline_after» = d; arguments = sp .arguments })
+    go false false = refl
+    go true false = refl
+    go false true = refl
+    go true true = refl
+
+told-none : Told noPrevious
+unfolding entryFor topOf
+told-none = refl
+
+told-top-level : (w : ℕ) (sp : SpanInfo) → Told (topLevelAfter w sp)
+unfolding entryFor
+told-top-level w sp = rw (span-back w sp)
+
+told-reserved : (p : Previous) (t : ℕ) → Told p → Told (reservedAfter p t)
+unfolding entryFor
+told-reserved p t h = ap (λ (q : Previous). reservedAfter q t) h ∙ go (topOf (p .marks) (topSpan p))
+  where
+    go : (v : Option SpanInfo) → reservedAfter (entryFor v (p .word)) t ≡ entryFor v (t + 1)
+    go none = refl
+    go (some sp) = refl
+
 after-reserved : (p : Previous) (t : ℕ) → previousOf (reservedAfter p t) ≡ record { topLevelReserved = previousOf p .topLevelReserved; reserved = some t }
 unfolding previousOf wordOf
 after-reserved p t = rw add-one
 
 after-top-level : (w : ℕ) (sp : SpanInfo) → previousOf (topLevelAfter w sp) ≡ record { topLevelReserved = some sp; reserved = wordOf w }
-unfolding previousOf topOf
-after-top-level w sp = refl
+unfolding previousOf
+after-top-level w sp = rw (span-back w sp)
 
 ends-kind : (k : ℕ) (ts : List IndentType) → eqb k 0 ≡ endsTop (typeOf k ∷ ts)
 unfolding typeOf endsTop
@@ -166,7 +196,7 @@ ends-kind zero ts = refl
 ends-kind (suc zero) ts = refl
 ends-kind (suc (suc k)) ts = ne-eqb (suc (suc k)) 0 (λ h. omega arith)
 
-last-top-level : (l : List Previous) → lastTopLevel (map previousOf l) ≡ topOf (getD l 0 noPrevious .«top_level») (getD l 0 noPrevious .span)
+last-top-level : (l : List Previous) → lastTopLevel (map previousOf l) ≡ topOf (getD l 0 noPrevious .marks) (topSpan (getD l 0 noPrevious))
 unfolding lastTopLevel previousOf topOf
 last-top-level [] = refl
 last-top-level (p ∷ ps) = refl
@@ -290,7 +320,7 @@ module _ (i : Code) (c : Clean i) where
           spans = c .spans;
           paired = c .paired ∙ sym (ap tops e ∙ no-top folded (typesOf i));
           previous = kept-push noPrevious noPrevious g (c .previous);
-          told = every-set noPrevious Told (i .previous) (i .nprevious) noPrevious p (λ t. refl) (c .told);
+          told = every-set noPrevious Told (i .previous) (i .nprevious) noPrevious p told-none (c .told);
           fewer = omega arith;
           counted = rw (e, q) (block-level folded (i .level) (typesOf i) (c .counted));
         };
@@ -349,7 +379,7 @@ module _ (i : Code) (c : Clean i) where
           spans = kept-pop 0 (omega arith) (c .spans);
           paired = rw e (omega arith);
           previous = kept-pop noPrevious (omega arith) (c .previous);
-          told = popped-every noPrevious Told (c .previous) (omega arith) (λ t. refl) (c .told);
+          told = popped-every noPrevious Told (c .previous) (omega arith) told-none (c .told);
           fewer = omega arith;
           counted = rw (e, c .counted) (top-level (typesOf i) h);
         };
@@ -422,7 +452,7 @@ module _ (i : Code) (c : Clean i) where
             spans = c .spans;
             paired = c .paired ∙ block-counts (typesOf i) h ∙ sym (ap tops e);
             previous = kept-pop noPrevious (omega arith) (c .previous);
-            told = popped-every noPrevious Told (c .previous) (omega arith) (λ t. refl) (c .told);
+            told = popped-every noPrevious Told (c .previous) (omega arith) told-none (c .told);
             fewer = omega arith;
             counted = rw (e, t) (left-level k (i .level) (map typeOf (stack 0 (i .nkinds - 1) (i .kinds))) (c .known (i .nkinds - 1)) (rw t at h) (rw t at (c .counted)));
           };
@@ -506,28 +536,28 @@ module _ (i : Code) (c : Clean i) where
       (record { kinds = i .kinds; nkinds = i .nkinds; spans = i .spans; nspans = i .nspans; previous = set (i .previous) 0 v; nprevious = 1; level = i .level })
   unfolding setPreviousReserved markReserved previousOf topOf
   by-first-reserved t u v z e f =
-      rw (f, e) (first-word (reservedAfter noPrevious t) _ z (λ q. refl) (rw (after-reserved, no-words z)))
+      rw (f, e) (first-word (reservedAfter noPrevious t) _ z (told-reserved noPrevious t told-none) (rw (after-reserved, no-words z)))
 
   by-first-top-level : (t : ℕ) (sp : SpanInfo) (v : Previous) → i .nprevious ≡ 0 → v ≡ topLevelAfter (t + 1) sp
       → Stands (setPreviousTopLevel t sp (indentationOf i))
       (record { kinds = i .kinds; nkinds = i .nkinds; spans = i .spans; nspans = i .nspans; previous = set (i .previous) 0 v; nprevious = 1; level = i .level })
   unfolding setPreviousTopLevel markTopLevel wordOf
   by-first-top-level t sp v z e =
-      rw e (first-word (topLevelAfter (t + 1) sp) _ z (λ q. false-true (sym q)) (rw (after-top-level, no-words z, add-one)))
+      rw e (first-word (topLevelAfter (t + 1) sp) _ z (told-top-level (t + 1) sp) (rw (after-top-level, no-words z, add-one)))
 
   by-next-reserved : (t : ℕ) (v : Previous) → (i .nprevious ≡ 0 → ⊥) → v ≡ reservedAfter (getD (i .previous) (i .nprevious - 1) noPrevious) t
       → Stands (setPreviousReserved t (indentationOf i))
       (record { kinds = i .kinds; nkinds = i .nkinds; spans = i .spans; nspans = i .nspans; previous = set (i .previous) (i .nprevious - 1) v; nprevious = i .nprevious; level = i .level })
   unfolding setPreviousReserved markReserved
   by-next-reserved t v z e =
-      rw e (next-word (reservedAfter (getD (i .previous) (i .nprevious - 1) noPrevious) t) _ z (c .told (i .nprevious - 1)) (rw (after-reserved) (sym (rw (some-words z)))))
+      rw e (next-word (reservedAfter (getD (i .previous) (i .nprevious - 1) noPrevious) t) _ z (told-reserved _ t (c .told (i .nprevious - 1))) (rw (after-reserved) (sym (rw (some-words z)))))
 
   by-next-top-level : (t : ℕ) (sp : SpanInfo) (v : Previous) → (i .nprevious ≡ 0 → ⊥) → v ≡ topLevelAfter (getD (i .previous) (i .nprevious - 1) noPrevious .word) sp
       → Stands (setPreviousTopLevel t sp (indentationOf i))
       (record { kinds = i .kinds; nkinds = i .nkinds; spans = i .spans; nspans = i .nspans; previous = set (i .previous) (i .nprevious - 1) v; nprevious = i .nprevious; level = i .level })
   unfolding setPreviousTopLevel markTopLevel previousOf
   by-next-top-level t sp v z e =
-      rw e (next-word (topLevelAfter (getD (i .previous) (i .nprevious - 1) noPrevious .word) sp) _ z (λ q. false-true (sym q)) (rw (after-top-level) (sym (rw (some-words z)))))
+      rw e (next-word (topLevelAfter (getD (i .previous) (i .nprevious - 1) noPrevious .word) sp) _ z (told-top-level _ sp) (rw (after-top-level) (sym (rw (some-words z)))))
 
   nothing-above : (n : ℕ) → i .nprevious ≡ 0 → getD (i .previous) n noPrevious ≡ noPrevious
   nothing-above n z = c .previous .above n (omega arith)
@@ -590,11 +620,11 @@ module _ (i : Code) (c : Clean i) where
   unfolding indentationOf full
   by-full = rw (types-length i)
 
-  by-top-level : topOf (lastOf i .«top_level») (lastOf i .span) ≡ previousTopLevelReserved (indentationOf i)
+  by-top-level : topOf (lastOf i .marks) (topSpan (lastOf i)) ≡ previousTopLevelReserved (indentationOf i)
   unfolding lastOf previousTopLevelReserved indentationOf
   by-top-level = sym (last-top-level (stack noPrevious (i .nprevious) (i .previous)))
 
-  pub by-top-level-in : (p : Previous) (v : Option SpanInfo) → p ≡ lastOf i → v ≡ topOf (p .«top_level») (p .span) → v ≡ previousTopLevelReserved (indentationOf i)
+  pub by-top-level-in : (p : Previous) (v : Option SpanInfo) → p ≡ lastOf i → v ≡ topOf (p .marks) (topSpan p) → v ≡ previousTopLevelReserved (indentationOf i)
   by-top-level-in p v e h = h ∙ (rw (← e) at by-top-level)
 
   reserved-told : wordOf (lastOf i .word) ≡ previousReserved (indentationOf i)
@@ -608,6 +638,28 @@ module _ (i : Code) (c : Clean i) where
   unfolding indentLevel indentationOf
   by-level n true e = let h = level-within i c in (e ∙ ap (λ (m : ℕ). m - 1) (c .counted), omega arith)
   by-level n false e = let h = level-within i c in (e ∙ c .counted ∙ sym (sub-zero (unfolded (typesOf i))), omega arith)
+
+  pub by-level-into : (folded f b : Bool) (n : ℕ) → f ≡ full (indentationOf i .indentTypes) → b ≡ (not folded && not f) → n ≡ (if b then i .level + 1 else i .level)
+      → (n ≡ indentLevel false (increaseBlockLevel folded (indentationOf i))) × (n ≤ 128)
+  unfolding indentLevel indentationOf increaseBlockLevel unfolded full
+  by-level-into folded true b n ef eb en =
+      let h = level-within i c in
+      let e : n ≡ i .level = rw (eb, none-more folded) at en in
+      (rw (← ef) (e ∙ c .counted ∙ sym (sub-zero (unfolded (typesOf i)))), omega arith)
+    where
+      none-more : (folded : Bool) → (not folded && false) ≡ false
+      none-more true = refl
+      none-more false = refl
+  by-level-into true false b n ef eb en =
+      let h = level-within i c in
+      let e : n ≡ i .level = rw eb at en in
+      (rw (← ef) (e ∙ c .counted ∙ sym (sub-zero (unfolded (typesOf i)))), omega arith)
+  by-level-into false false b n ef eb en =
+      let t = unfolded-within (typesOf i) in
+      let k = leb-false 128 (length (typesOf i)) (sym ef) in
+      let w = c .counted in
+      let e : n ≡ suc (unfolded (typesOf i)) = rw eb at en ∙ omega arith in
+      (rw (← ef) (e ∙ sym (sub-zero (suc (unfolded (typesOf i))))), omega arith)
 
 -- ---- the loop that pops a block
 
@@ -662,7 +714,7 @@ by-new v e =
         spans = kept-none 0 128;
         paired = refl;
         previous = kept-none noPrevious 129;
-        told = every-same noPrevious Told 129 (λ t. refl);
+        told = every-same noPrevious Told 129 told-none;
         fewer = omega arith;
         counted = refl;
       };

@@ -3,8 +3,8 @@ use mathlib.Core.Path.{_≡_}
 use mathlib.Core.Bool.{Bool, true, false}
 use mathlib.Core.Option.{Option, none, some}
 use mathlib.Core.List.{List, [], _∷_, map}
-use Prim.Native.Nat.{ℕ, zero, suc, _+_, _≤_}
-use lib.Dec.{eqb}
+use Prim.Native.Nat.{ℕ, zero, suc, _+_, _%_, _≤_}
+use lib.Dec.{eqb, ltb}
 use lib.ListN.{getD}
 use Rattle.rules.specs.declared.IndentType.{IndentType}
 use Rattle.rules.specs.declared.IndentType.the-variants.{Top, Block, FoldedBlock}
@@ -35,24 +35,44 @@ unfoldable pub wordOf : ℕ → Option ℕ
 wordOf zero = none
 wordOf (suc n) = some n
 
-unfoldable pub topOf : Bool → SpanInfo → Option SpanInfo
-topOf true sp = some sp
-topOf false sp = none
+-- the marks of a top-level word: whether its span has a newline before, and one after
+unfoldable pub marksOf : Bool → Bool → ℕ
+marksOf false false = 1
+marksOf true false = 2
+marksOf false true = 3
+marksOf true true = 4
+
+-- the span that an entry's numbers tell
+abbrev pub topSpan : Previous → SpanInfo
+topSpan p = record { «full_span» = p .«full_span»; blocks = p .blocks; «newline_before» = eqb (p .marks % 2) 0; «newline_after» = ltb 2 (p .marks); arguments = p .arguments }
+
+-- there is one where there are marks
+unfoldable pub topOf : ℕ → SpanInfo → Option SpanInfo
+topOf zero sp = none
+topOf (suc m) sp = some sp
 
 unfoldable pub previousOf : Previous → PreviousTokens ℕ
-previousOf p = record { topLevelReserved = topOf (p .«top_level») (p .span); reserved = wordOf (p .word) }
+previousOf p = record { topLevelReserved = topOf (p .marks) (topSpan p); reserved = wordOf (p .word) }
 
 abbrev pub noSpan : SpanInfo
 noSpan = record { «full_span» = 0; blocks = 0; «newline_before» = false; «newline_after» = false; arguments = 0 }
 
+abbrev pub entry : SpanInfo → ℕ → ℕ → Previous
+entry sp word marks = record { «full_span» = sp .«full_span»; blocks = sp .blocks; arguments = sp .arguments; word = word; marks = marks }
+
 abbrev pub noPrevious : Previous
-noPrevious = record { span = noSpan; word = 0; «top_level» = false }
+noPrevious = entry noSpan 0 0
 
 abbrev pub reservedAfter : Previous → ℕ → Previous
-reservedAfter p token = record { span = p .span; word = token + 1; «top_level» = p .«top_level» }
+reservedAfter p token = entry (topSpan p) (token + 1) (p .marks)
 
 abbrev pub topLevelAfter : ℕ → SpanInfo → Previous
-topLevelAfter word sp = record { span = sp; word = word; «top_level» = true }
+topLevelAfter word sp = entry sp word (marksOf (sp .«newline_before») (sp .«newline_after»))
+
+-- the one entry for a span, or none, and a word
+unfoldable pub entryFor : Option SpanInfo → ℕ → Previous
+entryFor none word = entry noSpan word 0
+entryFor (some sp) word = topLevelAfter word sp
 
 unfoldable pub typesOf : Code → List IndentType
 typesOf i = map typeOf (stack 0 (i .nkinds) (i .kinds))
@@ -84,9 +104,9 @@ tops (Top ∷ ts) = suc (tops ts)
 tops (Block ∷ ts) = tops ts
 tops (FoldedBlock ∷ ts) = tops ts
 
--- a span stands only where there is a top-level word
+-- an entry is the one for what it tells: no marks above 4, and zeros where there are none
 abbrev pub Told : Previous → Type 0
-Told p = p .«top_level» ≡ false → p .span ≡ noSpan
+Told p = p ≡ entryFor (topOf (p .marks) (topSpan p)) (p .word)
 
 -- the invariant: each stack is kept, a span for each top-level entry, at most one previous word more than entries, the level is the count of unfolded entries
 pub record Clean (i : Code) : Type 0 where

@@ -15,7 +15,7 @@ use Rattle.indentation.specs.declared.Word.{Word}
 use Rattle.indentation.specs.declared.Word.the-variants as word
 use Rattle.indentation.specs.declared.TopLevel.{TopLevel}
 use Rattle.indentation.specs.declared.TopLevel.the-variants as top
-use Rattle.indentation.specs.Of.{typeOf, wordOf, topOf, previousOf, noSpan, noPrevious, typesOf, indentationOf, Told, wordIn, spanIn, Stands, StandsClosed}
+use Rattle.indentation.specs.Of.{typeOf, wordOf, topSpan, topOf, previousOf, noPrevious, entryFor, typesOf, indentationOf, Told, wordIn, spanIn, Stands, StandsClosed}
 
 no-way : {A : Type 0} → _≡_ {A = ℕ} 0 1 → A
 no-way e = absurd (omega arith)
@@ -41,29 +41,12 @@ one-word zero (suc y) e = no-way (cc)
 one-word (suc x) zero e = no-way (cc)
 one-word (suc x) (suc y) e = let z : x ≡ y = cc in omega arith
 
-pub record SameTop (b : Bool) (s : SpanInfo) (d : Bool) (t : SpanInfo) : Type 0 where
-  pub told : b ≡ d
-  pub span : s ≡ t
-
-one-top : (b : Bool) (s : SpanInfo) (d : Bool) (t : SpanInfo) → (b ≡ false → s ≡ noSpan) → (d ≡ false → t ≡ noSpan) → topOf b s ≡ topOf d t → SameTop b s d t
-unfolding topOf
-one-top true s true t p q e = record { told = refl; span = cc }
-one-top true s false t p q e = no-way (cc)
-one-top false s true t p q e = no-way (cc)
-one-top false s false t p q e = record { told = refl; span = p refl ∙ sym (q refl) }
-
 one-previous : (x y : Previous) → Told x → Told y → previousOf x ≡ previousOf y → x ≡ y
 unfolding previousOf
 one-previous x y p q e =
-    let t = one-top (x .«top_level») (x .span) (y .«top_level») (y .span) p q (ap (λ (v : PreviousTokens ℕ). v .topLevelReserved) e) in
-    let a = t .told in
-    let b = t .span in
+    let t : topOf (x .marks) (topSpan x) ≡ topOf (y .marks) (topSpan y) = ap (λ (v : PreviousTokens ℕ). v .topLevelReserved) e in
     let w : x .word ≡ y .word = one-word (x .word) (y .word) (ap (λ (v : PreviousTokens ℕ). v .reserved) e) in
-    let r : mk (x .span) (x .word) (x .«top_level») ≡ mk (y .span) (y .word) (y .«top_level») = cc in
-    r
-  where
-    mk : SpanInfo → ℕ → Bool → Previous
-    mk s w b = record { span = s; word = w; «top_level» = b }
+    p ∙ ap (λ (v : Option SpanInfo). entryFor v (x .word)) t ∙ ap (entryFor (topOf (y .marks) (topSpan y))) w ∙ sym q
 
 -- ---- the stacks
 

@@ -1,10 +1,11 @@
 // indentation.rs: the stacks of indent kinds, spans and previous words, by value.
 ghost use mathlib.Core.Path.{_≡_};
+ghost use mathlib.Core.Bool.{false};
 ghost use Prim.Native.Nat.{_+_, _-_, _≤_, _<_};
 ghost use lib.Dec.{eqb};
 ghost use Rattle.rules.specs.Indentation.{noIndentation, indentLevel, increaseTopLevel, increaseBlockLevel, decreaseTopLevel, decreaseBlockLevel, setPreviousReserved, setPreviousTopLevel, previousTopLevelReserved, span as spanOf};
 ghost use Rattle.rules.specs.Base.{if_then_else_, when, full};
-ghost use Rattle.indentation.specs.Of.{indentationOf, typesOf, noPrevious, endsTop, kindFor, wordOf, topOf, reservedAfter, topLevelAfter, topIn, lastOf, wordIn, spanIn, Clean, Stands, StandsClosed};
+ghost use Rattle.indentation.specs.Of.{indentationOf, typesOf, noPrevious, endsTop, kindFor, wordOf, marksOf, topSpan, topOf, reservedAfter, topLevelAfter, topIn, lastOf, wordIn, spanIn, Clean, Stands, StandsClosed};
 use rules::SpanInfo;
 use stacks::both;
 use stacks::chosen;
@@ -14,10 +15,14 @@ use stacks::more_if;
 use stacks::within;
 
 // The last top-level word's span, and the last reserved word: its token's number and one more, 0 where there is none.
+// Marks: 0 where there is no top-level word, else 1, one more where its span has a newline before, two more where it has one after.
+// Flat numbers: an array of them has no gaps, so it is filled and copied as bytes.
 pub struct Previous {
-    pub span: SpanInfo,
+    pub full_span: u32,
+    pub blocks: u16,
+    pub arguments: u16,
     pub word: u16,
-    pub top_level: bool,
+    pub marks: u16,
 }
 
 // Kinds: 0 Top, 1 Block, 2 FoldedBlock. Entries above the counts are zero. The level is the count of entries that aren't folded.
@@ -53,17 +58,12 @@ pub struct Closed {
 fn no_previous() -> Previous
     ensures { λ r. ⌜ r ≡ noPrevious ⌝ }
 {
-    let span = SpanInfo {
+    Previous {
         full_span: 0,
         blocks: 0,
-        newline_before: false,
-        newline_after: false,
         arguments: 0,
-    };
-    Previous {
-        span,
         word: 0,
-        top_level: false,
+        marks: 0,
     }
 }
 
@@ -114,21 +114,39 @@ fn reserved_after(last: Previous, token: u16) -> Previous
     requires { ⌜ token < 65535 ⌝ }
     ensures { λ r. ⌜ r ≡ reservedAfter last token ⌝ }
 {
-    let span = last.span;
     Previous {
-        span,
+        full_span: last.full_span,
+        blocks: last.blocks,
+        arguments: last.arguments,
         word: token + 1,
-        top_level: last.top_level,
+        marks: last.marks,
     }
+}
+
+fn marks_of(before: bool, after: bool) -> u16
+    ensures { λ r. ⌜ r ≡ marksOf before after ⌝ }
+{
+    if before {
+        if after {
+            return 4;
+        }
+        return 2;
+    }
+    if after {
+        return 3;
+    }
+    1
 }
 
 fn top_level_after(word: u16, span: SpanInfo) -> Previous
     ensures { λ r. ⌜ r ≡ topLevelAfter word span ⌝ }
 {
     Previous {
-        span,
+        full_span: span.full_span,
+        blocks: span.blocks,
+        arguments: span.arguments,
         word,
-        top_level: true,
+        marks: marks_of(span.newline_before, span.newline_after),
     }
 }
 
@@ -144,13 +162,20 @@ impl Previous {
     }
 
     pub fn top_level_reserved(self) -> TopLevel
-        ensures { λ r. ⌜ spanIn r ≡ topOf (self .«top_level») (self .span) ⌝ }
+        ensures { λ r. ⌜ spanIn r ≡ topOf (self .marks) (topSpan self) ⌝ }
     {
-        if self.top_level {
-            let span = self.span;
-            return TopLevel::Span(span);
+        let m = self.marks;
+        if m == 0 {
+            return TopLevel::Nothing;
         }
-        TopLevel::Nothing
+        let span = SpanInfo {
+            full_span: self.full_span,
+            blocks: self.blocks,
+            newline_before: m % 2 == 0,
+            newline_after: 2 < m,
+            arguments: self.arguments,
+        };
+        TopLevel::Span(span)
     }
 }
 
@@ -347,6 +372,15 @@ impl Indentation {
         ensures { λ r. ⌜ r ≡ full (indentationOf self .indentTypes) ⌝ }
     {
         128 <= self.nkinds
+    }
+
+    // The level that `increase_block_level` leads to: a handler has it before the arrays change.
+    pub fn level_into(self, folded: bool) -> usize
+        requires { ⌜ Clean self ⌝ }
+        ensures { λ r. ⌜ (r ≡ indentLevel false (increaseBlockLevel folded (indentationOf self))) × (r ≤ 128) ⌝ }
+    {
+        let counts = both(!folded, !self.is_full());
+        more_if(counts, self.level)
     }
 
     pub fn indent_level(self, folded: bool) -> usize

@@ -1,4 +1,5 @@
 pub mod TrimLaws
+pub mod MarkLaws
 pub mod MeasureLaws
 pub mod LongestLaws
 pub mod ReportLaws

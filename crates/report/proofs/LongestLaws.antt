@@ -1,120 +1,197 @@
--- Laws of the longest line in bytes, which is the width of a text without tabs. Assumes nothing.
+-- Laws of the longest line in bytes: what may be passed. Assumes nothing.
 use mathlib.Core.Path.{_≡_, refl, sym, ap, _∙_}
-use mathlib.Core.Bool.{Bool, true, false, _||_}
+use mathlib.Core.Bool.{Bool, true, false, _&&_, _||_, false≢true}
 use mathlib.Core.List.{List, [], _∷_}
-use Prim.Native.Nat.{ℕ, suc, _+_, _-_, _≤_, _<_, max}
+use Prim.Native.Nat.{ℕ, zero, suc, _+_, _-_, _≤_, _<_, min, max}
+use native.Mathlib.Numerals.{add-one}
 use native.Mathlib.Omega.{arith}
+use lib.Bits.{bitOr, bitXor, xor-add-and, and-le-l, and-le-r}
 use lib.Dec.{eqb}
-use lib.ListN.{length, take, drop, getD}
-use lib.Seq.{drop-drop}
-use borrow.Author.Tests.{eq-eqb, ne-eqb}
-use Rattle.rules.specs.Base.{if_then_else_}
-use Rattle.rules.specs.Text.{lineFeeds, width}
-use Rattle.rules.proofs.Columns.{longestFrom, longestLine, hasTab, without-tabs}
+use lib.ListN.{length, take, drop, getD, length-drop}
+use lib.Seq.{drop-drop, take-take, getD-take, getD-drop}
+use borrow.Author.Count.{below-more}
+use borrow.Author.Tests.{eq-eqb, ne-eqb, eqb-true, eqb-false}
+use Rattle.rules.proofs.Columns.{longestFrom, longestLine}
 use Rattle.ascii.specs.Part.{part, has, before}
-use Rattle.ascii.proofs.PartLaws.{part-drop}
-use Rattle.report.specs.Finished.{sizeOf}
-use Rattle.report.proofs.TrimLaws.{take-next, take-end}
-use Rattle.report.proofs.MeasureLaws.{sized}
+use Rattle.ascii.proofs.PartLaws.{length-part, part-suc, part-drop, part-end, part-more}
+use Rattle.ascii.proofs.FindLaws.{has-both}
+use Rattle.report.specs.Short.{Passed, InEach}
+use Rattle.report.proofs.TrimLaws.{take-part, take-end}
+use Rattle.report.proofs.MarkLaws.{or-zero}
 
-width-by : (at best x : ℕ) (xs : List ℕ) (b : Bool) → eqb x 10 ≡ b → longestFrom at best (x ∷ xs) ≡ longestFrom (if b then 0 else suc at) (if b then max at best else best) xs
-width-by at best x xs b e = ap (λ (a : Bool). longestFrom (if a then 0 else suc at) (if a then max at best else best) xs) e
+-- ---- lists: a line of at most `best` bytes changes nothing
 
--- ---- a run of a line
-
-feeds-run : (v : List ℕ) → lineFeeds (drop (before 10 v) v) ≡ lineFeeds v
-feeds-run [] = refl
-feeds-run (x ∷ xs) = go (eqb x 10) refl (feeds-run xs)
+-- a line feed p bytes on: all up to it is passed
+jump : (v : List ℕ) (p at best : ℕ) → p < length v → getD v p 0 ≡ 10 → at + p ≤ best → longestFrom 0 best (drop (suc p) v) ≡ longestFrom at best v
+jump [] p at best h z c = absurd (omega arith)
+jump (x ∷ xs) zero at best h z c = let m : max at best ≡ best = omega arith in rw (eq-eqb x 10 z, m)
+jump (x ∷ xs) (suc p) at best h z c = go (eqb x 10) refl (jump xs p 0 best (omega arith) z (omega arith)) (jump xs p (suc at) best (omega arith) z (omega arith))
   where
-    go : (b : Bool) → eqb x 10 ≡ b → lineFeeds (drop (before 10 xs) xs) ≡ lineFeeds xs → lineFeeds (drop (before 10 (x ∷ xs)) (x ∷ xs)) ≡ lineFeeds (x ∷ xs)
-    go true e f = let k : before 10 (x ∷ xs) ≡ 0 = rw e in rw k
-    go false e f = rw e f
+    go : (b : Bool) → eqb x 10 ≡ b → longestFrom 0 best (drop (suc p) xs) ≡ longestFrom 0 best xs → longestFrom 0 best (drop (suc p) xs) ≡ longestFrom (suc at) best xs
+        → longestFrom 0 best (drop (suc p) xs) ≡ longestFrom at best (x ∷ xs)
+    go true e f g = let m : max at best ≡ best = omega arith in rw (e, m) f
+    go false e f g = rw e g
 
-width-run : (v : List ℕ) (at best : ℕ) → longestFrom (at + before 10 v) best (drop (before 10 v) v) ≡ longestFrom at best v
-width-run [] at best = let e : at + 0 ≡ at = omega arith in rw e
-width-run (x ∷ xs) at best = go (eqb x 10) refl (width-run xs (suc at) best)
+-- a line feed among the next bytes: a line that started earlier is no longer than best either
+nearer : (v : List ℕ) (w at best : ℕ) → has 10 10 (take w v) ≡ true → at + w ≤ best + 1 → longestFrom at best v ≡ longestFrom 0 best v
+nearer v zero at best h c = absurd (false≢true h)
+nearer [] (suc w) at best h c = absurd (false≢true h)
+nearer (x ∷ xs) (suc w) at best h c = go (eqb x 10) refl (λ f. nearer xs w (suc at) best f (omega arith) ∙ sym (nearer xs w 1 best f (omega arith)))
   where
-    go : (b : Bool) → eqb x 10 ≡ b → longestFrom (suc at + before 10 xs) best (drop (before 10 xs) xs) ≡ longestFrom (suc at) best xs
-        → longestFrom (at + before 10 (x ∷ xs)) best (drop (before 10 (x ∷ xs)) (x ∷ xs)) ≡ longestFrom at best (x ∷ xs)
+    go : (b : Bool) → eqb x 10 ≡ b → (has 10 10 (take w xs) ≡ true → longestFrom (suc at) best xs ≡ longestFrom 1 best xs) → longestFrom at best (x ∷ xs) ≡ longestFrom 0 best (x ∷ xs)
+    go true e g =
+        let m : max at best ≡ best = omega arith in
+        let n : max 0 best ≡ best = omega arith in
+        rw (e, m, n)
+    go false e g = rw e (g (rw e at h))
+
+-- so a byte is passed
+one-on : (v : List ℕ) (w best : ℕ) → has 10 10 (take w v) ≡ true → w ≤ best + 1 → longestFrom 0 best (drop 1 v) ≡ longestFrom 0 best v
+one-on [] w best h c = refl
+one-on (x ∷ xs) zero best h c = absurd (false≢true h)
+one-on (x ∷ xs) (suc w) best h c = go (eqb x 10) refl
+  where
+    go : (b : Bool) → eqb x 10 ≡ b → longestFrom 0 best xs ≡ longestFrom 0 best (x ∷ xs)
+    go true e = let m : max 0 best ≡ best = omega arith in rw (e, m)
+    go false e = let f : has 10 10 (take w xs) ≡ true = rw e at h in rw e (sym (nearer xs w 1 best f (omega arith)))
+
+-- no more bytes than best
+rest : (v : List ℕ) (at best : ℕ) → at + length v ≤ best → longestFrom at best v ≡ best
+rest [] at best h = omega arith
+rest (x ∷ xs) at best h = go (eqb x 10) refl (rest xs 0 best (omega arith)) (rest xs (suc at) best (omega arith))
+  where
+    go : (b : Bool) → eqb x 10 ≡ b → longestFrom 0 best xs ≡ best → longestFrom (suc at) best xs ≡ best → longestFrom at best (x ∷ xs) ≡ best
+    go true e f g = let m : max at best ≡ best = omega arith in rw (e, m) f
+    go false e f g = rw e g
+
+-- a line that is measured
+exact : (v : List ℕ) (at best : ℕ) → longestFrom 0 (max (at + before 10 v) best) (drop (suc (before 10 v)) v) ≡ longestFrom at best v
+exact [] at best = omega arith
+exact (x ∷ xs) at best = go (eqb x 10) refl (exact xs (suc at) best)
+  where
+    go : (b : Bool) → eqb x 10 ≡ b → longestFrom 0 (max (suc at + before 10 xs) best) (drop (suc (before 10 xs)) xs) ≡ longestFrom (suc at) best xs
+        → longestFrom 0 (max (at + before 10 (x ∷ xs)) best) (drop (suc (before 10 (x ∷ xs))) (x ∷ xs)) ≡ longestFrom at best (x ∷ xs)
     go true e f =
-        let k : before 10 (x ∷ xs) ≡ 0 = rw e in
-        let l : at + 0 ≡ at = omega arith in
-        rw (k, l)
+        let k : at + 0 ≡ at = omega arith in
+        rw (e, k)
     go false e f = let k : at + suc (before 10 xs) ≡ suc at + before 10 xs = omega arith in rw (e, k) f
 
-module _ (d : List ℕ) (len i r : ℕ) (e : r ≡ before 10 (part d i (len - i))) where
-  run-is : r ≡ before 10 (drop i (take len d))
-  run-is = let k : 0 + i ≡ i = omega arith in e ∙ ap (before 10) (sym (part-drop d 0 len i ∙ ap (λ (j : ℕ). part d j (len - i)) k))
+-- ---- whether a line feed is in a window
 
-  -- the bytes after the run
-  after : drop (before 10 (drop i (take len d))) (drop i (take len d)) ≡ drop (i + r) (take len d)
-  after = ap (λ (k : ℕ). drop k (drop i (take len d))) (sym run-is) ∙ drop-drop r i (take len d)
-
-  pub by-run-lines : (n : ℕ) → n + lineFeeds (drop i (take len d)) ≡ lineFeeds (take len d) + 1 → n + lineFeeds (drop (i + r) (take len d)) ≡ lineFeeds (take len d) + 1
-  by-run-lines n f =
-      let k : lineFeeds (drop (i + r) (take len d)) ≡ lineFeeds (drop i (take len d)) = ap lineFeeds (sym after) ∙ feeds-run (drop i (take len d)) in
-      omega arith
-
-  pub by-run-width : (from best : ℕ) → from ≤ i → longestFrom (i - from) best (drop i (take len d)) ≡ longestLine (take len d) → longestFrom (i + r - from) best (drop (i + r) (take len d)) ≡ longestLine (take len d)
-  by-run-width from best g f =
-      let v = drop i (take len d) in
-      let k : i + r - from ≡ i - from + r = omega arith in
-      rw k (ap (λ (j : ℕ). longestFrom (i - from + j) best (drop (i + r) (take len d))) run-is ∙ ap (longestFrom (i - from + before 10 v) best) (sym after) ∙ width-run v (i - from) best ∙ f)
-
--- ---- a byte
-
-module _ (d : List ℕ) (len i : ℕ) (h : len ≤ length d) where
-  module _ (c : i < len) where
-    pub by-line-fed : (n : ℕ) → getD d i 0 ≡ 10 → n + lineFeeds (drop i (take len d)) ≡ lineFeeds (take len d) + 1
-        → n + 1 + lineFeeds (drop (i + 1) (take len d)) ≡ lineFeeds (take len d) + 1
-    by-line-fed n z e =
-        let k : lineFeeds (drop i (take len d)) ≡ suc (lineFeeds (drop (i + 1) (take len d))) = rw (take-next d len i h c, eq-eqb (getD d i 0) 10 z) in
-        omega arith
-
-    pub by-line-on : (n : ℕ) → (getD d i 0 ≡ 10 → ⊥) → n + lineFeeds (drop i (take len d)) ≡ lineFeeds (take len d) + 1
-        → n + lineFeeds (drop (i + 1) (take len d)) ≡ lineFeeds (take len d) + 1
-    by-line-on n z e =
-        let k : lineFeeds (drop i (take len d)) ≡ lineFeeds (drop (i + 1) (take len d)) = rw (take-next d len i h c, ne-eqb (getD d i 0) 10 z) in
-        omega arith
-
-    pub by-width-fed : (from best m : ℕ) → getD d i 0 ≡ 10 → m ≡ max (i - from) best → longestFrom (i - from) best (drop i (take len d)) ≡ longestLine (take len d)
-        → longestFrom (i + 1 - (i + 1)) m (drop (i + 1) (take len d)) ≡ longestLine (take len d)
-    by-width-fed from best m z f e =
-        let at : ℕ = i - from in
-        let o : i + 1 - (i + 1) ≡ 0 = omega arith in
-        let k : longestFrom at best (drop i (take len d)) ≡ longestFrom 0 (max at best) (drop (i + 1) (take len d)) =
-        ap (longestFrom at best) (take-next d len i h c) ∙ width-by at best (getD d i 0) (drop (i + 1) (take len d)) true (eq-eqb (getD d i 0) 10 z) in
-        rw o (ap (λ (a : ℕ). longestFrom 0 a (drop (i + 1) (take len d))) f ∙ sym k ∙ e)
-
-    pub by-width-on : (from best : ℕ) → from ≤ i → (getD d i 0 ≡ 10 → ⊥) → longestFrom (i - from) best (drop i (take len d)) ≡ longestLine (take len d)
-        → longestFrom (i + 1 - from) best (drop (i + 1) (take len d)) ≡ longestLine (take len d)
-    by-width-on from best g z e =
-        let at : ℕ = i - from in
-        let o : i + 1 - from ≡ suc at = omega arith in
-        let k : longestFrom at best (drop i (take len d)) ≡ longestFrom (suc at) best (drop (i + 1) (take len d)) =
-        ap (longestFrom at best) (take-next d len i h c) ∙ width-by at best (getD d i 0) (drop (i + 1) (take len d)) false (ne-eqb (getD d i 0) 10 z) in
-        rw o (sym k ∙ e)
-
-module _ (d : List ℕ) (len i r : ℕ) (h : len ≤ length d) (c : i < len) (z : getD d i 0 ≡ 10 → ⊥) (e : r ≡ before 10 (part d (i + 1) (len - (i + 1)))) where
-  pub by-long-lines : (n : ℕ) → n + lineFeeds (drop i (take len d)) ≡ lineFeeds (take len d) + 1 → n + lineFeeds (drop (i + 1 + r) (take len d)) ≡ lineFeeds (take len d) + 1
-  by-long-lines n f = by-run-lines d len (i + 1) r e n (by-line-on d len i h c n z f)
-
-  pub by-long-width : (from best : ℕ) → from ≤ i → longestFrom (i - from) best (drop i (take len d)) ≡ longestLine (take len d) → longestFrom (i + 1 + r - from) best (drop (i + 1 + r) (take len d)) ≡ longestLine (take len d)
-  by-long-width from best g f = by-run-width d len (i + 1) r e from best (omega arith) (by-width-on d len i h c from best g z f)
-
--- ---- the size
-
-no-tab : (v : List ℕ) → has 9 9 v ≡ false → hasTab v ≡ false
-no-tab [] h = refl
-no-tab (x ∷ xs) h = go (eqb x 9) (no-tab xs) h
+xor-none : (x : ℕ) → eqb (bitXor x 10) 0 ≡ eqb x 10
+xor-none x = go (eqb x 10) refl
   where
-    go : (b : Bool) → (has 9 9 xs ≡ false → hasTab xs ≡ false) → ((b || b) || has 9 9 xs) ≡ false → (b || hasTab xs) ≡ false
-    go true f h = h
-    go false f h = f h
+    go : (b : Bool) → eqb x 10 ≡ b → eqb (bitXor x 10) 0 ≡ b
+    go true e = rw (eqb-true x 10 e)
+    go false e = ne-eqb (bitXor x 10) 0 (λ z. eqb-false x 10 e (let o = xor-add-and x 10 in let k = and-le-l x 10 in let l = and-le-r x 10 in omega arith))
 
-pub by-longest : (d : List ℕ) (len i n at best m : ℕ) → len ≤ length d → len ≤ i → 0 < len → has 9 9 (take len d) ≡ false → n + lineFeeds (drop i (take len d)) ≡ lineFeeds (take len d) + 1
-    → longestFrom at best (drop i (take len d)) ≡ longestLine (take len d) → m ≡ max at best → record { lines = n; width = m } ≡ sizeOf (take len d)
-by-longest d len i n at best m h c z t e f g =
-    let k : lineFeeds (drop i (take len d)) ≡ 0 = rw (take-end d len i h c) in
-    let q : max at best ≡ longestFrom at best (drop i (take len d)) = rw (take-end d len i h c) in
-    sized d len n m h z (omega arith) (g ∙ q ∙ f ∙ sym (without-tabs (take len d) (no-tab (take len d) t)))
+least-none : (p q : ℕ) → eqb (min p q) 0 ≡ (eqb p 0 || eqb q 0)
+least-none p q = go (eqb p 0) (eqb q 0) refl refl
+  where
+    go : (a b : Bool) → eqb p 0 ≡ a → eqb q 0 ≡ b → eqb (min p q) 0 ≡ (a || b)
+    go true b e f = let k = eqb-true p 0 e in eq-eqb (min p q) 0 (omega arith)
+    go false true e f = let k = eqb-true q 0 f in eq-eqb (min p q) 0 (omega arith)
+    go false false e f = ne-eqb (min p q) 0 (λ z. let k = eqb-false p 0 e in let l = eqb-false q 0 f in omega arith)
+
+pub by-among : (d : List ℕ) (at i m r : ℕ) → at + i < length d → eqb m 0 ≡ has 10 10 (part d at i) → r ≡ min m (bitXor (getD d (at + i) 0) 10) → eqb r 0 ≡ has 10 10 (part d at (i + 1))
+by-among d at i m r h e f =
+    let x = getD d (at + i) 0 in
+    rw (f, least-none m (bitXor x 10), e, xor-none x, part-suc d at i h, has-both 10 10 (part d at i) (x ∷ [])) (ap (λ (b : Bool). has 10 10 (part d at i) || b) (twice (eqb x 10)))
+  where
+    twice : (b : Bool) → b ≡ ((b || b) || false)
+    twice true = refl
+    twice false = refl
+
+-- a part of a window has one
+in-first : (d : List ℕ) (at far w : ℕ) → has 10 10 (part d at w) ≡ true → has 10 10 (part d at (far + w)) ≡ true
+in-first d at far w e = let k : far + w ≡ w + far = omega arith in rw (k, part-more d at w far, has-both 10 10 (part d at w) (part d (at + w) far), e)
+
+in-second : (d : List ℕ) (at far w : ℕ) → has 10 10 (part d (at + far) w) ≡ true → has 10 10 (part d at (far + w)) ≡ true
+in-second d at far w e = rw (part-more d at far w, has-both 10 10 (part d at far) (part d (at + far) w), e) (right (has 10 10 (part d at far)))
+  where
+    right : (b : Bool) → (b || true) ≡ true
+    right true = refl
+    right false = refl
+
+in-window : (d : List ℕ) (at far w p q : ℕ) → eqb p 0 ≡ has 10 10 (part d at w) → eqb q 0 ≡ has 10 10 (part d (at + far) w) → min p q ≡ 0 → has 10 10 (part d at (far + w)) ≡ true
+in-window d at far w zero q e f z = in-first d at far w (sym e)
+in-window d at far w (suc p) zero e f z = in-second d at far w (sym f)
+in-window d at far w (suc p) (suc q) e f z = absurd (omega arith)
+
+pub by-window : (d : List ℕ) (start far w k all p q m : ℕ) → eqb p 0 ≡ has 10 10 (part d (start + k) w) → eqb q 0 ≡ has 10 10 (part d (start + k + far) w) → m ≡ min p q
+    → (all ≡ 0 → InEach d start (far + w) k) → bitOr all m ≡ 0 → InEach d start (far + w) (k + 1)
+by-window d start far w k all p q m e f g s z =
+    let n = eqb-both (eqb all 0) (eqb m 0) (sym (or-zero all m) ∙ eq-eqb (bitOr all m) 0 z) in
+    record { fed = below-more _ _ (s (eqb-true all 0 (n .0)) .fed) (in-window d (start + k) far w p q e f (sym g ∙ eqb-true m 0 (n .1))) }
+  where
+    eqb-both : (a b : Bool) → (a && b) ≡ true → (a ≡ true) × (b ≡ true)
+    eqb-both true b h = (refl, h)
+    eqb-both false b h = absurd (false≢true h)
+
+-- ---- parts: what is passed
+
+pub passed-none : (d : List ℕ) (start n best : ℕ) → Passed d start n best 0
+passed-none d start n best = record { within = omega arith; kept = refl }
+
+module _ (d : List ℕ) (start n best : ℕ) (h : start + n ≤ length d) where
+  pub passed-rest : n ≤ best → Passed d start n best n
+  passed-rest c =
+      let l = length-part d start n h in
+      let m : max 0 best ≡ best = omega arith in
+      record { within = omega arith; kept = rw (part-end d start n n h (omega arith), m) (sym (rest (part d start n) 0 best (omega arith))) }
+
+  jump-at : (i p : ℕ) → i + p < n → p ≤ best → getD d (start + (i + p)) 0 ≡ 10 → Passed d start n best i → Passed d start n best (i + (p + 1))
+  jump-at i p c g z s =
+      let v = drop i (part d start n) in
+      let l = length-part d start n h in
+      let k : length v ≡ n - i = length-drop i (part d start n) ∙ ap (λ (j : ℕ). j - i) l in
+      let b : getD v p 0 ≡ 10 = getD-drop i (part d start n) p 0 ∙ getD-take n (drop start d) (i + p) 0 c ∙ getD-drop start d (i + p) 0 ∙ z in
+      let f : drop (i + (p + 1)) (part d start n) ≡ drop (suc p) v = sym (drop-drop (p + 1) i (part d start n)) ∙ ap (λ (j : ℕ). drop j v) (add-one p) in
+      record { within = omega arith; kept = ap (longestFrom 0 best) f ∙ jump v p 0 best (omega arith) b (omega arith) ∙ s .kept }
+
+  -- lines of best bytes each
+  pub by-hop : (i : ℕ) → best < n - i → getD d (start + i + best) 0 ≡ 10 → Passed d start n best i → Passed d start n best (i + (best + 1))
+  by-hop i c z s =
+      let a : start + i + best ≡ start + (i + best) = omega arith in
+      jump-at i best (omega arith) (omega arith) (rw a at z) s
+
+  -- a line feed that ends r bytes
+  pub by-last : (r : ℕ) → best < n → r ≤ best + 1 → (0 < r → getD d (start + r - 1) 0 ≡ 10) → Passed d start n best r
+  by-last zero c g z = passed-none d start n best
+  by-last (suc p) c g z =
+      let a : start + suc p - 1 ≡ start + (0 + p) = omega arith in
+      let b : 0 + (p + 1) ≡ suc p = omega arith in
+      rw b at (jump-at 0 p (omega arith) (omega arith) (rw a at (z (omega arith))) (passed-none d start n best))
+
+  -- a line feed in each window
+  by-each : (w k : ℕ) → w ≤ best + 1 → k + w ≤ n → InEach d start w k → longestFrom 0 best (drop k (part d start n)) ≡ longestFrom 0 best (part d start n)
+  by-each w zero c g e = refl
+  by-each w (suc k) c g e =
+      let v = drop k (part d start n) in
+      let a : take w v ≡ part d (start + k) w = ap (take w) (part-drop d start n k) ∙ take-take w (n - k) (drop (start + k) d) (omega arith) in
+      let t : drop (suc k) (part d start n) ≡ drop 1 v = ap (λ (j : ℕ). drop j (part d start n)) (sym (add-one k)) ∙ sym (drop-drop 1 k (part d start n)) in
+      ap (longestFrom 0 best) t ∙ one-on v w best (ap (has 10 10) a ∙ e .fed k (omega arith)) c ∙ by-each w k c (omega arith) (record { fed = λ j l. e .fed j (omega arith) })
+
+  pub by-windows : (w k : ℕ) (b : Bool) → (b ≡ true → InEach d start w k) → w ≤ best + 1 → k + w ≤ n → b ≡ true → Passed d start n best k
+  by-windows w k b e c g f = record { within = omega arith; kept = by-each w k c g (e f) }
+
+-- ---- the loop
+
+module _ (d : List ℕ) (len i best : ℕ) (s : longestFrom 0 best (drop i (take len d)) ≡ longestLine (take len d)) where
+  pub by-run : (r : ℕ) → Passed d i (len - i) best r → longestFrom 0 best (drop (i + r) (take len d)) ≡ longestLine (take len d)
+  by-run r p =
+      let a = take-part d len i in
+      ap (longestFrom 0 best) (sym (drop-drop r i (take len d)) ∙ ap (drop r) a) ∙ p .kept ∙ ap (longestFrom 0 best) (sym a) ∙ s
+
+  pub by-line : (n m : ℕ) → n ≡ before 10 (part d i (len - i)) → m ≡ max n best → longestFrom 0 m (drop (i + (n + 1)) (take len d)) ≡ longestLine (take len d)
+  by-line n m e f =
+      let v = drop i (take len d) in
+      let a : n ≡ before 10 v = e ∙ ap (before 10) (sym (take-part d len i)) in
+      let b : max n best ≡ max (0 + before 10 v) best = omega arith in
+      let g : drop (i + (n + 1)) (take len d) ≡ drop (suc (before 10 v)) v = sym (drop-drop (n + 1) i (take len d)) ∙ ap (λ (j : ℕ). drop j v) (add-one n ∙ ap suc a) in
+      rw (f, b, g) (exact v 0 best ∙ s)
+
+  pub by-end : len ≤ length d → len ≤ i → best ≡ longestLine (take len d)
+  by-end h c =
+      let m : longestFrom 0 best (drop i (take len d)) ≡ max 0 best = ap (longestFrom 0 best) (take-end d len i h c) in
+      omega arith

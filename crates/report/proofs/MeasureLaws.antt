@@ -1,23 +1,24 @@
--- Laws of the count of lines and columns. Assumes nothing.
-use mathlib.Core.Path.{_≡_, refl, sym, ap, _∙_}
+-- Laws of the count of columns. Assumes nothing.
+use mathlib.Core.Path.{_≡_, refl, sym, ap, ap₂, _∙_}
 use mathlib.Core.Bool.{Bool, true, false, _||_}
 use mathlib.Core.List.{List, [], _∷_, _++_}
-use Prim.Native.Nat.{ℕ, suc, _+_, _-_, _*_, _/_, _≤_, _<_, max}
+use Prim.Native.Nat.{ℕ, zero, suc, _+_, _-_, _*_, _/_, _≤_, _<_, max}
 use native.Mathlib.Numerals.{add-one}
 use native.Mathlib.Omega.{arith}
+use lib.Bits.{bitOr, bitXor}
 use lib.Dec.{eqb}
-use lib.ListN.{length, take, drop, getD}
-use lib.Seq.{length-take-le}
+use lib.ListN.{length, take, drop, getD, length-replicate, getD-replicate, replicate-append-replicate}
+use lib.Seq.{take-all}
 use borrow.Author.Tests.{eq-eqb, ne-eqb}
-use Rattle.rules.specs.Base.{if_then_else_}
-use Rattle.rules.specs.Text.{columnAfter, lineFeeds, lines, widthFrom, width}
+use Rattle.rules.specs.Base.{if_then_else_, same}
+use Rattle.rules.specs.Text.{columnAfter, widthFrom, width}
 use Rattle.ascii.specs.Part.{part, has}
-use Rattle.ascii.proofs.PartLaws.{length-part, part-drop, part-more, part-next, part-end}
+use Rattle.ascii.proofs.PartLaws.{length-part, part-more, part-next, part-end}
+use Rattle.ascii.proofs.RunLaws.{told-more, same-true}
 use Rattle.ascii.proofs.FindLaws.{has-both}
-use Rattle.report.specs.declared.Size.{Size}
 use Rattle.report.specs.declared.Measure.{Measure}
-use Rattle.report.specs.Measured.{oneOn, measure, onward}
-use Rattle.report.specs.Finished.{sizeOf}
+use Rattle.report.specs.Measured.{oneOn, measure, onward, tabs}
+use Rattle.report.proofs.TrimLaws.{take-part}
 
 -- ---- one byte
 
@@ -38,42 +39,32 @@ column-most at x = go (eqb x 10) (eqb x 9)
     go false true = omega arith
     go false false = omega arith
 
-feeds-most : (x : ℕ) → (if eqb x 10 then 1 else 0) ≤ 1
-feeds-most x = go (eqb x 10)
-  where
-    go : (b : Bool) → (if b then 1 else 0) ≤ 1
-    go true = omega arith
-    go false = omega arith
-
 -- ---- a list of bytes
 
--- what a count grows by at most over n bytes; and the column is never above the largest
+-- how far the column goes at most over n bytes; and it is never above the largest
 pub record Most (m r : Measure) (n : ℕ) : Type 0 where
-  pub few : r .lines ≤ m .lines + n
   pub narrow : r .at ≤ m .at + 8 * n
   pub under : m .at ≤ m .best → r .at ≤ r .best
 
 pub measure-most : (m : Measure) (v : List ℕ) → Most m (measure m v) (length v)
-measure-most m [] = record { few = omega arith; narrow = omega arith; under = λ h. h }
+measure-most m [] = record { narrow = omega arith; under = λ h. h }
 measure-most m (x ∷ xs) =
     let k = measure-most (oneOn m x) xs in
     let c = column-most (m .at) x in
-    let f = feeds-most x in
-    record { few = omega (arith, k .few); narrow = omega (arith, k .narrow); under = λ h. k .under (omega arith) }
+    record { narrow = omega (arith, k .narrow); under = λ h. k .under (omega arith) }
 
 measure-both : (m : Measure) (v w : List ℕ) → measure m (v ++ w) ≡ measure (measure m v) w
 measure-both m [] w = refl
 measure-both m (x ∷ xs) w = measure-both (oneOn m x) xs w
 
-module _ (d : List ℕ) (start n i : ℕ) (h : start + n ≤ length d) (c : i < n) (l a b : ℕ) where
+module _ (d : List ℕ) (start n i : ℕ) (h : start + n ≤ length d) (c : i < n) (a : ℕ) where
   -- a turn of the loop
-  pub by-byte : (f k m : ℕ) (r : Measure) → f ≡ (if eqb (getD d (start + i) 0) 10 then 1 else 0) → k ≡ columnAfter a (getD d (start + i) 0) → m ≡ max k b
-      → measure (record { lines = l; at = a; best = b }) (drop i (part d start n)) ≡ r → measure (record { lines = l + f; at = k; best = m }) (drop (i + 1) (part d start n)) ≡ r
-  by-byte f k m r ef ek em e =
-      let x = getD d (start + i) 0 in
-      let o : measure (record { lines = l; at = a; best = b }) (drop i (part d start n)) ≡ measure (oneOn (record { lines = l; at = a; best = b }) x) (drop (i + 1) (part d start n)) =
-      ap (measure (record { lines = l; at = a; best = b })) (part-next d start n i h c) in
-      rw (em, ek, ef) (sym o ∙ e)
+  pub by-byte : (b k m : ℕ) (r : Measure) → k ≡ columnAfter a (getD d (start + i) 0) → m ≡ max k b → measure (record { at = a; best = b }) (drop i (part d start n)) ≡ r
+      → measure (record { at = k; best = m }) (drop (i + 1) (part d start n)) ≡ r
+  by-byte b k m r ek em e =
+      let o : measure (record { at = a; best = b }) (drop i (part d start n)) ≡ measure (oneOn (record { at = a; best = b }) (getD d (start + i) 0)) (drop (i + 1) (part d start n)) =
+      ap (measure (record { at = a; best = b })) (part-next d start n i h c) in
+      rw (em, ek) (sym o ∙ e)
 
   pub by-byte-column : (j k : ℕ) → k ≡ columnAfter a (getD d (start + i) 0) → a ≤ j + 8 * i → k ≤ j + 8 * (i + 1)
   by-byte-column j k ek g = let o = column-most a (getD d (start + i) 0) in rw ek (omega arith)
@@ -99,45 +90,75 @@ plain-byte x v h = go (eqb x 9) (eqb x 10) refl refl
     go false true e g = absurd (let z : true ≡ false = rw (e, g) at h in let y : _≡_ {A = ℕ} 0 1 = cc in omega arith)
     go false false e g = (e, (g, rw (e, g) at h))
 
-count : ℕ → ℕ → ℕ → Measure
-count l a b = record { lines = l; at = a; best = b }
+count : ℕ → ℕ → Measure
+count a b = record { at = a; best = b }
 
 measure-plain : (m : Measure) (v : List ℕ) → m .at ≤ m .best → has 9 10 v ≡ false → measure m v ≡ onward m (length v)
 unfolding count
 measure-plain m [] u h =
     let a : m .at ≡ m .at + 0 = omega arith in
     let b : m .best ≡ max (m .at + 0) (m .best) = omega arith in
-    ap (λ (k : ℕ). count (m .lines) k (m .best)) a ∙ ap (count (m .lines) (m .at + 0)) b
+    ap (λ (k : ℕ). count k (m .best)) a ∙ ap (count (m .at + 0)) b
 measure-plain m (x ∷ xs) u h =
     let p = plain-byte x xs h in
-    let l : m .lines + 0 ≡ m .lines = omega arith in
-    let o : oneOn m x ≡ count (m .lines) (suc (m .at)) (max (suc (m .at)) (m .best)) = rw (p .0, p .1 .0, l) in
-    let w = measure-plain (count (m .lines) (suc (m .at)) (max (suc (m .at)) (m .best))) xs (omega arith) (p .1 .1) in
+    let o : oneOn m x ≡ count (suc (m .at)) (max (suc (m .at)) (m .best)) = rw (p .0, p .1 .0) in
+    let w = measure-plain (count (suc (m .at)) (max (suc (m .at)) (m .best))) xs (omega arith) (p .1 .1) in
     let a : suc (m .at) + length xs ≡ m .at + suc (length xs) = omega arith in
     let b : max (suc (m .at) + length xs) (max (suc (m .at)) (m .best)) ≡ max (m .at + suc (length xs)) (m .best) = omega arith in
-    ap (λ (k : Measure). measure k xs) o ∙ w ∙ ap (λ (k : ℕ). count (m .lines) k (max (suc (m .at) + length xs) (max (suc (m .at)) (m .best)))) a ∙ ap (count (m .lines) (m .at + suc (length xs))) b
+    ap (λ (k : Measure). measure k xs) o ∙ w ∙ ap (λ (k : ℕ). count k (max (suc (m .at) + length xs) (max (suc (m .at)) (m .best)))) a ∙ ap (count (m .at + suc (length xs))) b
+
+-- ---- tabs in a row
+
+pub by-tab : (d : List ℕ) (start n i all : ℕ) → start + n ≤ length d → i < n → eqb all 0 ≡ same (part d start i) (take i (tabs n))
+    → eqb (bitOr all (bitXor (getD d (start + i) 0) 9)) 0 ≡ same (part d start (i + 1)) (take (i + 1) (tabs n))
+by-tab d start n i all h c e =
+    let l : length (tabs n) ≡ n = length-replicate n 9 in
+    let g : getD (tabs n) (0 + i) 0 ≡ 9 = getD-replicate n (0 + i) 9 0 (omega arith) in
+    rw g at (told-more d (tabs n) start 0 i all (omega arith) (omega arith) e)
+
+pub by-tabs : (d : List ℕ) (start n i all : ℕ) → i ≤ n → n ≤ i → eqb all 0 ≡ same (part d start i) (take i (tabs n)) → eqb all 0 ≡ same (part d start n) (tabs n)
+by-tabs d start n i all b c e =
+    let k : i ≡ n = omega arith in
+    let l : length (tabs n) ≤ n = rw (length-replicate {A = ℕ} n 9) (omega arith) in
+    let f : eqb all 0 ≡ same (part d start n) (take n (tabs n)) = rw k at e in
+    f ∙ ap (same (part d start n)) (take-all n (tabs n) l)
+
+pub by-more-tabs : (d : List ℕ) (start i k : ℕ) (b : Bool) → b ≡ same (part d (start + i) k) (tabs k) → b ≡ true → part d start i ≡ tabs i → part d start (i + k) ≡ tabs (i + k)
+by-more-tabs d start i k b e f g =
+    part-more d start i k ∙ ap₂ (λ (v w : List ℕ). v ++ w) g (same-true (part d (start + i) k) (tabs k) (sym e ∙ f)) ∙ replicate-append-replicate i k 9
+
+-- each goes to the next multiple of 8
+measure-tabs : (m : Measure) (n : ℕ) → measure m (tabs (suc n)) ≡ record { at = (m .at / 8 + suc n) * 8; best = max ((m .at / 8 + suc n) * 8) (m .best) }
+measure-tabs m zero = refl
+measure-tabs m (suc n) =
+    let a : ((m .at / 8 + 1) * 8 / 8 + suc n) * 8 ≡ (m .at / 8 + suc (suc n)) * 8 = omega arith in
+    let b : max ((m .at / 8 + suc (suc n)) * 8) (max ((m .at / 8 + 1) * 8) (m .best)) ≡ max ((m .at / 8 + suc (suc n)) * 8) (m .best) = omega arith in
+    measure-tabs (oneOn m 9) n ∙ rw (a, b)
+
+pub by-tabbed : (m : Measure) (n b : ℕ) → (n ≡ 0 → ⊥) → b ≡ max ((m .at / 8 + n) * 8) (m .best) → record { at = (m .at / 8 + n) * 8; best = b } ≡ measure m (tabs n)
+by-tabbed m zero b z e = absurd (z refl)
+by-tabbed m (suc n) b z e = rw e (sym (measure-tabs m n))
+
+pub by-no-tabs : (m : Measure) (n : ℕ) → n ≡ 0 → m ≡ measure m (tabs n)
+by-no-tabs m n z = rw z
 
 -- ---- the loop
 
 -- i bytes are counted
 pub record Counted (d : List ℕ) (len i : ℕ) (m : Measure) : Type 0 where
   pub within : i ≤ len
-  pub few : m .lines ≤ i + 1
   pub narrow : m .at ≤ 8 * i
   pub under : m .at ≤ m .best
-  pub left : measure m (drop i (take len d)) ≡ measure (record { lines = 1; at = 0; best = 0 }) (take len d)
+  pub left : measure m (drop i (take len d)) ≡ measure (record { at = 0; best = 0 }) (take len d)
 
-pub none-counted : (d : List ℕ) (len : ℕ) → Counted d len 0 (record { lines = 1; at = 0; best = 0 })
-none-counted d len = record { within = omega arith; few = omega arith; narrow = omega arith; under = omega arith; left = refl }
+pub none-counted : (d : List ℕ) (len : ℕ) → Counted d len 0 (record { at = 0; best = 0 })
+none-counted d len = record { within = omega arith; narrow = omega arith; under = omega arith; left = refl }
 
 -- the next k bytes
 next-bytes : (d : List ℕ) (len i k : ℕ) → i + k ≤ len → drop i (take len d) ≡ part d i k ++ drop (i + k) (take len d)
 next-bytes d len i k h =
-    let z : 0 + i ≡ i = omega arith in
-    let y : 0 + (i + k) ≡ i + k = omega arith in
     let n : len - i ≡ k + (len - (i + k)) = omega arith in
-    let from : (j a : ℕ) → 0 + j ≡ a → drop j (take len d) ≡ part d a (len - j) = λ j a e. part-drop d 0 len j ∙ ap (λ (b : ℕ). part d b (len - j)) e in
-    from i i z ∙ ap (part d i) n ∙ part-more d i k (len - (i + k)) ∙ ap (λ (v : List ℕ). part d i k ++ v) (sym (from (i + k) (i + k) y))
+    take-part d len i ∙ ap (part d i) n ∙ part-more d i k (len - (i + k)) ∙ ap (λ (v : List ℕ). part d i k ++ v) (sym (take-part d len (i + k)))
 
 module _ (d : List ℕ) (len i : ℕ) (m : Measure) (h : len ≤ length d) (s : Counted d len i m) where
   module _ (k : ℕ) (c : i + k ≤ len) (e : Measure) (f : e ≡ measure m (part d i k)) where
@@ -146,67 +167,42 @@ module _ (d : List ℕ) (len i : ℕ) (m : Measure) (h : len ≤ length d) (s : 
         let l = length-part d i k (omega arith) in
         rw f (rw l at (measure-most m (part d i k)))
 
-    pub counted-on : Counted d len (i + k) e
+    counted-on : Counted d len (i + k) e
     counted-on =
         let g = grown in
         record {
           within = c;
-          few = omega (arith, g .few, s .few);
           narrow = omega (arith, g .narrow, s .narrow);
           under = g .under (s .under);
           left = ap (λ (r : Measure). measure r (drop (i + k) (take len d))) f ∙ sym (measure-both m (part d i k) (drop (i + k) (take len d))) ∙ ap (measure m) (sym (next-bytes d len i k c)) ∙ s .left;
         }
 
   -- and a run without tabs and line feeds
-  pub counted-past : (k : ℕ) → i + k ≤ len → has 9 10 (part d i k) ≡ false → (e : Measure) → e ≡ onward m k → Counted d len (i + k) e
+  counted-past : (k : ℕ) → i + k ≤ len → has 9 10 (part d i k) ≡ false → (e : Measure) → e ≡ onward m k → Counted d len (i + k) e
   counted-past k c p e f =
       let l = length-part d i k (omega arith) in
       counted-on k c e (f ∙ ap (onward m) (sym l) ∙ sym (measure-plain m (part d i k) (s .under) p))
 
--- a turn: eight bytes, and a run
-pub by-turn : (d : List ℕ) (len i : ℕ) (m e p : Measure) (r : ℕ) → len ≤ length d → 8 ≤ len - i → e ≡ measure m (part d i 8) → r ≤ len - (i + 8) → has 9 10 (part d (i + 8) r) ≡ false → p ≡ onward e r
-    → Counted d len i m → Counted d len (i + 8 + r) p
-by-turn d len i m e p r h c f b q g s =
-    counted-past d len (i + 8) e h (counted-on d len i m h s 8 (omega arith) e f) r (omega arith) q p g
+-- a turn: eight bytes, a run, and tabs
+module _ (d : List ℕ) (len i : ℕ) (m e : Measure) (h : len ≤ length d) (s : Counted d len i m) (c : 8 ≤ len - i) (f : e ≡ measure m (part d i 8)) where
+  pub by-eight : Counted d len (i + 8) e
+  by-eight = counted-on d len i m h s 8 (omega arith) e f
 
--- ---- the size
+  module _ (r : ℕ) (p : Measure) (b : r ≤ len - (i + 8)) (q : has 9 10 (part d (i + 8) r) ≡ false) (g : p ≡ onward e r) where
+    pub by-run : Counted d len (i + 8 + r) p
+    by-run = counted-past d len (i + 8) e h by-eight r (omega arith) q p g
 
-lines-some : (v : List ℕ) → 0 < length v → lines v ≡ lineFeeds v + 1
-lines-some [] h = absurd (omega arith)
-lines-some (x ∷ xs) h = sym (add-one _)
+    pub by-turn : (t : ℕ) (a : Measure) → t ≤ len - (i + 8 + r) → part d (i + 8 + r) t ≡ tabs t → a ≡ measure p (tabs t) → Counted d len (i + 8 + r + t) a
+    by-turn t a l k n = counted-on d len (i + 8 + r) p h by-run t (omega arith) a (n ∙ ap (measure p) (sym k))
 
-measure-lines : (m : Measure) (v : List ℕ) → measure m v .lines ≡ m .lines + lineFeeds v
-measure-lines m [] = omega arith
-measure-lines m (x ∷ xs) = go (eqb x 10) (measure-lines (oneOn m x) xs)
-  where
-    go : (b : Bool) → measure (oneOn m x) xs .lines ≡ m .lines + (if b then 1 else 0) + lineFeeds xs → measure (oneOn m x) xs .lines ≡ m .lines + (if b then suc (lineFeeds xs) else lineFeeds xs)
-    go true e = omega arith
-    go false e = omega arith
+-- ---- the width
 
 measure-width : (m : Measure) (v : List ℕ) → measure m v .best ≡ widthFrom (m .at) (m .best) v
 measure-width m [] = refl
 measure-width m (x ∷ xs) = measure-width (oneOn m x) xs
 
-size : ℕ → ℕ → Size
-size n w = record { lines = n; width = w }
-
-pub sized : (d : List ℕ) (len n m : ℕ) → len ≤ length d → 0 < len → n ≡ lineFeeds (take len d) + 1 → m ≡ width (take len d) → record { lines = n; width = m } ≡ sizeOf (take len d)
-unfolding size
-sized d len n m h z e f =
-    let l = length-take-le len d h in
-    ap (λ (k : ℕ). size k m) (e ∙ sym (lines-some (take len d) (omega arith))) ∙ ap (size (lines (take len d))) f
-
-pub by-size : (d : List ℕ) (len i : ℕ) (m a : Measure) → len ≤ length d → 0 < len → Counted d len i m → a ≡ measure m (part d i (len - i)) → record { lines = a .lines; width = a .best } ≡ sizeOf (take len d)
+pub by-width : (d : List ℕ) (len i : ℕ) (m a : Measure) → Counted d len i m → a ≡ measure m (part d i (len - i)) → a .best ≡ width (take len d)
 unfolding count
-by-size d len i m a h z s e =
-    let o : 0 + i ≡ i = omega arith in
-    let p : a ≡ measure (count 1 0 0) (take len d) = e ∙ ap (measure m) (sym (part-drop d 0 len i ∙ ap (λ (j : ℕ). part d j (len - i)) o)) ∙ s .left in
-    let n : a .lines ≡ 1 + lineFeeds (take len d) = ap (λ (r : Measure). r .lines) p ∙ measure-lines (count 1 0 0) (take len d) in
-    let w : a .best ≡ width (take len d) = ap (λ (r : Measure). r .best) p ∙ measure-width (count 1 0 0) (take len d) in
-    sized d len (a .lines) (a .best) h z (omega arith) w
-
-pub by-no-size : (d : List ℕ) (len : ℕ) → len ≡ 0 → record { lines = 0; width = 0 } ≡ sizeOf (take len d)
-by-no-size d len z = rw z
-
-pub from-start : (d : List ℕ) (len : ℕ) (b : Bool) → b ≡ has 9 9 (part d 0 len) → b ≡ false → has 9 9 (take len d) ≡ false
-from-start d len b e f = sym e ∙ f
+by-width d len i m a s e =
+    let p : a ≡ measure (count 0 0) (take len d) = e ∙ ap (measure m) (sym (take-part d len i)) ∙ s .left in
+    ap (λ (r : Measure). r .best) p ∙ measure-width (count 0 0) (take len d)

@@ -17,8 +17,11 @@ use Rattle.text.specs.Held.{textOf, Held, Laid}
 use Rattle.text.proofs.PutLaws.{put-snoc, length-put, take-put, take-put-at, drop-put, drop-put-at, getD-put}
 use Rattle.text.proofs.HeldLaws.{zero-or, text-fits, text-refused, laid}
 
+-- what is left of the text; and a byte at a time
+pub take-part : (d : List ℕ) (len i : ℕ) → drop i (take len d) ≡ part d i (len - i)
+take-part d len i = let z : 0 + i ≡ i = omega arith in part-drop d 0 len i ∙ ap (λ (j : ℕ). part d j (len - i)) z
+
 module _ (d : List ℕ) (len i : ℕ) (h : len ≤ length d) where
-  -- what is left of the text, a byte at a time
   pub take-next : i < len → drop i (take len d) ≡ getD d i 0 ∷ drop (i + 1) (take len d)
   take-next c =
       let l = length-take-le len d h in
@@ -109,9 +112,7 @@ module _ (t : Code) (d : List ℕ) (h : Held t d) (from : ℕ) (k : from ≤ t .
       let q : from + n ≤ length d = omega arith in
       let u : n + from ≡ t .len = omega arith in
       let l : length (lowered d from n) ≡ length d = length-lowered d from n q in
-      let j : from ≡ 0 + from = omega arith in
-      let m : part d from n ≡ drop from (take (t .len) d) = ap (λ (i : ℕ). part d i n) j ∙ sym (part-drop d 0 (t .len) from) in
-      let o : take n (lowered d from n) ≡ trimStart isWhite (take (t .len) d) = take-lowered d from n q ∙ m ∙ f in
+      let o : take n (lowered d from n) ≡ trimStart isWhite (take (t .len) d) = take-lowered d from n q ∙ sym (take-part d (t .len) from) ∙ f in
       laid _ _ _ _ l
       (record {
         within = omega arith;

@@ -1,2 +1,3 @@
 pub mod Measured
+pub mod Short
 pub mod Finished

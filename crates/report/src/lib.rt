@@ -1,5 +1,6 @@
 // The end of a layout: the text is trimmed at both ends, and its lines and width are counted.
-use ascii::find;
+mod longest;
+
 use ascii::in_run;
 use ascii::is_white;
 use text::Text;
@@ -10,12 +11,12 @@ ghost use mathlib.Core.Bool.{false};
 ghost use Prim.Native.Nat.{_+_, _*_, _^_, _≤_, _<_, max};
 ghost use lib.Dec.{eqb};
 ghost use lib.ListN.{length, take, drop};
-ghost use Rattle.rules.specs.Base.{if_then_else_};
-ghost use Rattle.rules.specs.Text.{isWhite, trimStart, trimmed, change, columnAfter, bytesIn};
+ghost use Rattle.rules.specs.Base.{if_then_else_, same};
+ghost use Rattle.rules.specs.Text.{isWhite, trimStart, trimmed, change, columnAfter, width, bytesIn};
 ghost use Rattle.ascii.specs.Part.{part, has};
 ghost use Rattle.text.specs.Put.{put};
 ghost use Rattle.text.specs.Held.{textOf, Held, Laid, bytesOf};
-ghost use Rattle.report.specs.Measured.{measure, onward};
+ghost use Rattle.report.specs.Measured.{Marked, measure, onward, tabs};
 ghost use Rattle.report.specs.Finished.{sizeOf, finished};
 
 pub struct Size {
@@ -85,11 +86,65 @@ fn trim_start(text: &mut [u8], t: Text) -> Text
     }
 }
 
-// ---- lines and width
+// ---- line feeds and tabs
 
-// The lines so far, the column, and the largest column so far.
+// `tab` is not 0 where a tab stands.
+pub struct Marks {
+    pub feeds: usize,
+    pub tab: u8,
+}
+
+fn equal(a: u8, b: u8) -> u8
+    ensures { λ r. ⌜ (r ≡ (if eqb a b then 1 else 0)) × (r ≤ 1) ⌝ }
+{
+    if a == b { 1 } else { 0 }
+}
+
+// No branch for each byte, and so few bytes that their line feeds, summed, fit in one: a block of a fixed length is counted many
+// bytes at a time.
+fn marks_in(text: &[u8], start: usize, n: usize) -> Marks
+    requires { ⌜ (start + n ≤ length (now text)) × (n ≤ 192) ⌝ }
+    ensures { λ r. ⌜ Marked (part (now (text .entry)) start n) r × (r .feeds ≤ n) ⌝ }
+{
+    let mut feeds: u8 = 0;
+    let mut tab: u8 = 0;
+    let mut i = 0;
+    while i < n {
+        let b = text[start + i];
+        feeds += equal(b, 10);
+        tab |= equal(b, 9);
+        i += 1;
+    }
+    Marks {
+        feeds: feeds as usize,
+        tab,
+    }
+}
+
+fn all_marks(text: &[u8], len: usize) -> Marks
+    requires { ⌜ len ≤ length (now text) ⌝ }
+    ensures { λ r. ⌜ Marked (take len (now (text .entry))) r × (r .feeds ≤ len) ⌝ }
+{
+    let mut feeds = 0;
+    let mut tab: u8 = 0;
+    let mut i = 0;
+    while 192 <= len - i {
+        let m = marks_in(text, i, 192);
+        feeds += m.feeds;
+        tab |= m.tab;
+        i += 192;
+    }
+    let m = marks_in(text, i, len - i);
+    Marks {
+        feeds: feeds + m.feeds,
+        tab: tab | m.tab,
+    }
+}
+
+// ---- width by columns
+
+// The column, and the largest column so far.
 pub struct Measure {
-    pub lines: usize,
     pub at: usize,
     pub best: usize,
 }
@@ -98,12 +153,6 @@ fn larger(a: usize, b: usize) -> usize
     ensures { λ r. ⌜ r ≡ max a b ⌝ }
 {
     if a < b { b } else { a }
-}
-
-fn feeds(b: u8) -> usize
-    ensures { λ r. ⌜ (r ≡ (if eqb b 10 then 1 else 0)) × (r ≤ 1) ⌝ }
-{
-    if b == 10 { 1 } else { 0 }
 }
 
 fn column_after(at: usize, b: u8) -> usize
@@ -121,21 +170,18 @@ fn column_after(at: usize, b: u8) -> usize
 
 // No branch for each byte.
 fn measured(text: &[u8], start: usize, n: usize, m: Measure) -> Measure
-    requires { ⌜ (start + n ≤ length (now text)) × (m .lines + n < 2 ^ 63) × (m .at + 8 * n < 2 ^ 63) ⌝ }
+    requires { ⌜ (start + n ≤ length (now text)) × (m .at + 8 * n < 2 ^ 63) ⌝ }
     ensures { λ r. ⌜ r ≡ measure m (part (now (text .entry)) start n) ⌝ }
 {
-    let mut lines = m.lines;
     let mut at = m.at;
     let mut best = m.best;
     let mut i = 0;
     while i < n {
-        let b = text[start + i];
-        lines += feeds(b);
-        at = column_after(at, b);
+        at = column_after(at, text[start + i]);
         best = larger(at, best);
         i += 1;
     }
-    Measure { lines, at, best }
+    Measure { at, best }
 }
 
 // A number of bytes without a tab or a line feed; none are looked for unless the line `goes on`.
@@ -162,68 +208,81 @@ fn passed(m: Measure, run: usize) -> Measure
 {
     let at = m.at + run;
     Measure {
-        lines: m.lines,
         at,
         best: larger(at, m.best),
     }
 }
 
-// Eight columns in eight bytes: the line goes on, and is passed many bytes at a time. For a short line that would be dear.
-fn by_columns(text: &[u8], len: usize) -> Size
-    requires { ⌜ (len ≤ length (now text)) × (len < 2 ^ 60) × (0 < len) ⌝ }
-    ensures { λ r. ⌜ r ≡ sizeOf (take len (now (text .entry))) ⌝ }
+fn all_tabs(text: &[u8], start: usize, n: usize) -> bool
+    requires { ⌜ start + n ≤ length (now text) ⌝ }
+    ensures { λ r. ⌜ r ≡ same (part (now (text .entry)) start n) (tabs n) ⌝ }
 {
-    let mut m = Measure {
-        lines: 1,
-        at: 0,
-        best: 0,
-    };
+    let mut all: u8 = 0;
+    let mut i = 0;
+    while i < n {
+        all |= text[start + i] ^ 9;
+        i += 1;
+    }
+    all == 0
+}
+
+// A number of tabs; none are looked for unless the line `goes on` in tabs.
+fn tab_run(text: &[u8], start: usize, n: usize, goes_on: bool) -> usize
+    requires { ⌜ start + n ≤ length (now text) ⌝ }
+    ensures { λ r. ⌜ (r ≤ n) × (part (now (text .entry)) start r ≡ tabs r) ⌝ }
+{
+    let mut i = 0;
+    if !goes_on {
+        return i;
+    }
+    while 16 <= n - i {
+        if !all_tabs(text, start + i, 16) {
+            return i;
+        }
+        i += 16;
+    }
+    i
+}
+
+fn tabbed(m: Measure, run: usize) -> Measure
+    requires { ⌜ m .at + 8 * run < 2 ^ 63 ⌝ }
+    ensures { λ r. ⌜ r ≡ measure m (tabs run) ⌝ }
+{
+    if run == 0 {
+        return m;
+    }
+    let at = (m.at / 8 + run) * 8;
+    Measure {
+        at,
+        best: larger(at, m.best),
+    }
+}
+
+// Eight columns in eight bytes: the line goes on, and is passed many bytes at a time. For a short line that would be dear. Eight
+// columns for each of the eight: the same with tabs.
+fn by_columns(text: &[u8], len: usize) -> usize
+    requires { ⌜ (len ≤ length (now text)) × (len < 2 ^ 60) ⌝ }
+    ensures { λ r. ⌜ r ≡ width (take len (now (text .entry))) ⌝ }
+{
+    let mut m = Measure { at: 0, best: 0 };
     let mut i = 0;
     while 8 <= len - i {
         let eight = measured(text, i, 8, m);
-        let goes_on = eight.at == m.at + 8;
         i += 8;
-        let run = plain_run(text, i, len - i, goes_on);
+        let run = plain_run(text, i, len - i, eight.at == m.at + 8);
         i += run;
-        m = passed(eight, run);
+        let past = passed(eight, run);
+        let tabs = tab_run(text, i, len - i, past.at == m.at + 64);
+        i += tabs;
+        m = tabbed(past, tabs);
     }
     let all = measured(text, i, len - i, m);
-    Size {
-        lines: all.lines,
-        width: all.best,
-    }
+    all.best
 }
 
-// Without tabs the width is the longest line in bytes, and a line's end alone is looked at.
-fn by_bytes(text: &[u8], len: usize) -> Size
-    requires { ⌜ (len ≤ length (now text)) × (0 < len) × (has 9 9 (take len (now text)) ≡ false) ⌝ }
-    ensures { λ r. ⌜ r ≡ sizeOf (take len (now (text .entry))) ⌝ }
-{
-    let mut lines = 1;
-    let mut best = 0;
-    let mut from = 0;
-    let mut i = 0;
-    while i < len {
-        if text[i] != 10 {
-            i += 1;
-            // A long line is passed many bytes at a time; for a short one that would be dear.
-            if i - from != 16 {
-                continue;
-            }
-            i += find(text, i, len - i, 10);
-            continue;
-        }
-        lines += 1;
-        best = larger(i - from, best);
-        i += 1;
-        from = i;
-    }
-    Size {
-        lines,
-        width: larger(i - from, best),
-    }
-}
+// ---- lines and width
 
+// Without tabs the width is the longest line in bytes.
 pub fn lines_width(text: &[u8], len: usize) -> Size
     requires { ⌜ (len ≤ length (now text)) × (len < 2 ^ 60) ⌝ }
     ensures { λ r. ⌜ r ≡ sizeOf (take len (now (text .entry))) ⌝ }
@@ -231,10 +290,18 @@ pub fn lines_width(text: &[u8], len: usize) -> Size
     if len == 0 {
         return Size { lines: 0, width: 0 };
     }
-    if in_run(text, 0, len, 9, 9) {
-        return by_columns(text, len);
+    let m = all_marks(text, len);
+    let lines = m.feeds + 1;
+    if m.tab != 0 {
+        return Size {
+            lines,
+            width: by_columns(text, len),
+        };
     }
-    by_bytes(text, len)
+    Size {
+        lines,
+        width: longest::longest_line(text, len),
+    }
 }
 
 // ---- the whole

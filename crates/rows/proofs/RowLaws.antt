@@ -2,7 +2,7 @@
 use mathlib.Core.Path.{_≡_, refl, sym, ap, _∙_}
 use mathlib.Core.Bool.{Bool, true, false}
 use mathlib.Core.Option.{none, some}
-use mathlib.Core.List.{List, _∷_, _++_, map, append-assoc}
+use mathlib.Core.List.{List, [], _∷_, _++_, map, append-assoc}
 use Prim.Native.Nat.{ℕ, suc, _+_, _-_, _*_, _/_, _%_, _^_, _≤_, _<_, min}
 use native.Mathlib.Omega.{arith}
 use lib.Dec.{eqb, leb}
@@ -184,6 +184,24 @@ module _ (d₀ : List ℕ) (count end lead : ℕ) where
     pub trim-on : (start len : ℕ) (d′ : List ℕ) → start ≡ min end (s .start) - lead → len ≡ min end (s .start + s .len) - lead - (min end (s .start) - lead) → d′ ≡ withSpan d at start len → length d′ ≡ length d
         → Left (trims end lead) d₀ count d′ (i - 1)
     trim-on start len d′ e f w n = walk-on (trims end lead) d₀ count d i at l h ea d′ start len w (cut-short start len e f) n
+
+-- where nothing goes from the start a row is clipped alone
+unshifted : (r : Row) → shift 0 r ≡ r
+unfolding shift between
+unshifted r =
+    let a : r .start - 0 ≡ r .start = omega arith in
+    let b : r .start + r .len - 0 - (r .start - 0) ≡ r .len = omega arith in
+    ap (λ (n : ℕ). mk n (r .start + r .len - 0 - (r .start - 0))) a ∙ ap (mk (r .start)) b
+  where
+    mk : ℕ → ℕ → Row
+    mk start len = record { token = r .token; entry = r .entry; start = start; len = len }
+
+clipped-alone : (end : ℕ) (rs : List Row) → map (clip end) rs ≡ map (trims end 0) rs
+clipped-alone end [] = refl
+clipped-alone end (r ∷ rs) = ap (λ (q : Row). q ∷ map (clip end) rs) (sym (unshifted (clip end r))) ∙ ap (λ (qs : List Row). trims end 0 r ∷ qs) (clipped-alone end rs)
+
+pub trim-alone : (d d′ : List ℕ) (count end lead : ℕ) → lead ≡ 0 → d′ ≡ listing (length d) (map (clip end) (rowsIn count d)) → d′ ≡ listing (length d) (map (trims end lead) (rowsIn count d))
+trim-alone d d′ count end lead z h = rw z (h ∙ ap (listing (length d)) (clipped-alone end (rowsIn count d)))
 
 -- ---- after
 

@@ -167,8 +167,8 @@ fn trimmed(s: Span, end: usize, lead: usize) -> Span
     }
 }
 
-// The trim at both ends: the text ends at `end`, and `lead` bytes go from its start.
-pub fn trim(rows: &mut [u32], count: usize, end: usize, lead: usize)
+// Each row anew, from the last one back.
+fn trim_each(rows: &mut [u32], count: usize, end: usize, lead: usize)
     requires { ⌜ Words (now rows) count ⌝ }
     ensures { λ r. ⌜ now (rows .exit) ≡ listing (length (now (rows .entry))) (map (λ q. q ▹ clipTo end ▹ shift lead) (rowsIn count (now (rows .entry)))) ⌝ }
 {
@@ -180,4 +180,16 @@ pub fn trim(rows: &mut [u32], count: usize, end: usize, lead: usize)
         put_span(rows, at, t.start, t.len as u32);
         i -= 1;
     }
+}
+
+// The trim at both ends: the text ends at `end`, and `lead` bytes go from its start. Where none go, only rows at the end are touched.
+pub fn trim(rows: &mut [u32], count: usize, end: usize, lead: usize)
+    requires { ⌜ Listed (now rows) count ⌝ }
+    ensures { λ r. ⌜ now (rows .exit) ≡ listing (length (now (rows .entry))) (map (λ q. q ▹ clipTo end ▹ shift lead) (rowsIn count (now (rows .entry)))) ⌝ }
+{
+    if lead == 0 {
+        clip(rows, count, end);
+        return;
+    }
+    trim_each(rows, count, end, lead);
 }

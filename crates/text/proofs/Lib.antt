@@ -2,5 +2,6 @@ pub mod PutLaws
 pub mod HeldLaws
 pub mod AppendLaws
 pub mod CutLaws
+pub mod EightLaws
 pub mod LineLaws
 pub mod WorkLaws

@@ -5,9 +5,9 @@ use Prim.Native.Nat.{ℕ, zero, suc, _+_, _-_, _≤_, _<_}
 use native.Mathlib.Nat.{add-zero}
 use native.Mathlib.Omega.{arith}
 use lib.ListN.{length, take, drop, set, getD, replicate, length-append, length-take, length-drop, length-replicate, replicate-append-replicate, take-append-drop}
-use lib.Seq.{length-take-le, take-at, drop-at, set-at, drop-cons, getD-drop}
+use lib.Seq.{length-take-le, take-at, drop-at, set-at, drop-cons, getD-drop, take-take}
 use Rattle.ascii.specs.Part.{part}
-use Rattle.ascii.proofs.PartLaws.{length-part, part-suc}
+use Rattle.ascii.proofs.PartLaws.{length-part, part-suc, drop-take}
 use Rattle.text.specs.Put.{put}
 
 module _ (d : List ℕ) (at : ℕ) where
@@ -51,6 +51,23 @@ module _ (d : List ℕ) (at : ℕ) where
         let e : at + length (p ++ (b ∷ [])) ≡ suc (at + length p) = simp length-append (omega arith) in
         rw (e, drop-cons d (at + length p) 0)
         (set-at (take at d ++ p) _ _ b (at + length p) (head-length k) ∙ simp append-assoc)
+
+module _ (d : List ℕ) (n : ℕ) (q : List ℕ) (w : n ≤ length d) where
+  -- what stands before what was written
+  pub part-put : (at k : ℕ) → at + k ≡ n → part (put d n q) at k ≡ part d at k
+  part-put at k e =
+      let j : n - at ≡ k = omega arith in
+      rw j at (sym (drop-take at n (put d n q)) ∙ ap (drop at) (take-put-at d n q w) ∙ drop-take at n d)
+
+  -- what is written just before it
+  pub put-before : (at : ℕ) (p : List ℕ) → at + length p ≡ n → put (put d n q) at p ≡ put d at (p ++ q)
+  unfolding put
+  put-before at p e =
+      let h : at ≤ n = omega arith in
+      let t : take at (put d n q) ≡ take at d = sym (take-take at n (put d n q) h) ∙ ap (take at) (take-put-at d n q w) ∙ take-take at n d h in
+      let l : at + length (p ++ q) ≡ n + length q = rw length-append (omega arith) in
+      let s : drop (at + length p) (put d n q) ≡ q ++ drop (n + length q) d = rw e (drop-put-at d n q w) in
+      rw (t, s, l) (sym (append-assoc (take at d ++ p) q (drop (n + length q) d)) ∙ ap (λ (v : List ℕ). v ++ drop (n + length q) d) (append-assoc (take at d) p q))
 
 pub drop-replicate : (k n b : ℕ) → drop k (replicate n b) ≡ replicate (n - k) b
 drop-replicate zero n b = let e : n - 0 ≡ n = omega arith in rw e

@@ -3,6 +3,7 @@
 // refusal's number.
 // A refused text is handed on by every function here, so callers go straight on and look at the fault once.
 // A text is handed on field by field: as a whole it would be copied through memory.
+use ascii::eight_blanks;
 use ascii::is_blank;
 use ascii::is_white;
 use rules::Indent;
@@ -14,7 +15,7 @@ ghost use lib.ListN.{length, take, replicate};
 ghost use lib.Dec.{eqb};
 ghost use Rattle.rules.specs.Text.{lastOr, indentOf, append, lineFeed, fits, refuse as refusedWith, cut, cutBlanks, cutWhite, hold as holding, isOn, newLine, closingLine};
 ghost use Rattle.ascii.specs.Part.{part};
-ghost use Rattle.text.specs.Put.{put};
+ghost use Rattle.text.specs.Put.{put, Blanked};
 ghost use Rattle.text.specs.Held.{textOf, Held, Laid, cutTo, cutBytes, heldWhole, marked};
 
 pub struct Text {
@@ -224,7 +225,24 @@ fn lowered(len: usize, floor: usize, low: usize, fault: u32) -> Text
     }
 }
 
-// A cut is short, so it goes a byte at a time and zeroes as it goes.
+// A long cut goes eight blanks at a time. What is left of it, and all of a usual one, which has one or two, is the caller's.
+fn cut_eights(text: &mut [u8], floor: usize, full: usize) -> usize
+    requires { ⌜ (floor ≤ full) × (full ≤ length (now text)) ⌝ }
+    ensures { λ r. ⌜ (floor ≤ r) × Blanked (now (text .entry)) r full (now (text .exit)) ⌝ }
+{
+    let mut len = full;
+    while 8 <= len - floor {
+        let first = len - 8;
+        if !eight_blanks(text, first) {
+            return len;
+        }
+        fill(text, first, 0, 8);
+        len = first;
+    }
+    len
+}
+
+// A cut zeroes as it goes, so that zeros follow the text.
 fn trim_end(text: &mut [u8], t: Text, white: bool) -> Text
     requires { ⌜ Held t (now text) ⌝ }
     ensures { λ r. ⌜ Laid (length (now (text .entry))) (cut (cutBytes white) (textOf t (now (text .entry)))) r (now (text .exit)) ⌝ }
@@ -232,7 +250,8 @@ fn trim_end(text: &mut [u8], t: Text, white: bool) -> Text
     let fault = t.fault;
     let floor = t.floor;
     let low = t.low;
-    let mut len = t.len;
+    let full = t.len;
+    let mut len = cut_eights(text, floor, full);
     while floor < len {
         let last = len - 1;
         if !is_cut(white, text[last]) {

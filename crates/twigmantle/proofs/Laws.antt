@@ -5,7 +5,7 @@ use mathlib.Core.List.{List, append-nil}
 use Prim.Native.Nat.{ℕ, _+_, _*_, _≤_, _<_}
 use native.Mathlib.Omega.{arith}
 use lib.Dec.{ltb}
-use borrow.Author.Tests.{ltb-false}
+use borrow.Author.Tests.{ltb-false, le-ltb}
 use lib.ListN.{length, replicate, drop-of-length-le, length-replicate}
 use Rattle.rules.specs.declared.Checked.{Checked}
 use Rattle.rules.specs.declared.Report.{Report}
@@ -90,6 +90,15 @@ module _ (s : List ℕ) (k : ℕ) (c : Counts) where
 
   pub by-unasked : (b : Bool) → b ≡ false → false ≡ (b && isShort s k (found.Sound c))
   by-unasked b f = rw f
+
+  -- a row for each token is a row for each placeholder
+  pub by-ample : (b : Bool) → isWithdrawn s ≡ false → 5 * c .tokens ≤ k → false ≡ (b && isShort s k (found.Sound c))
+  unfolding isShort toLayOut
+  by-ample b w h = let f = few-placeholders s c in rw (w, le-ltb k (5 * placeholders (tokensOf s c)) (omega arith)) (neither b)
+    where
+      neither : (b : Bool) → false ≡ (b && false)
+      neither true = refl
+      neither false = refl
 
   -- the list has room for the rows that are asked for
   pub enough : (b g : Bool) → isWithdrawn s ≡ false → g ≡ (b && isShort s k (found.Sound c)) → g ≡ false → b ≡ true → 5 * placeholders (tokensOf s c) ≤ k

@@ -83,10 +83,15 @@ fn is_short(sheet: &[u8], words: usize, with_rows: bool, c: Counts) -> bool
     requires { ⌜ (Sheeted (now sheet) c) × (isWithdrawn (now sheet) ≡ false) ⌝ }
     ensures { λ r. ⌜ r ≡ («with_rows» && isShort (now (sheet .entry)) words (found.Sound c)) ⌝ }
 {
-    if with_rows {
-        return words < 5 * placeholders(sheet, c);
+    if !with_rows {
+        return false;
     }
-    false
+    // A list with a row for each token is never short: then nothing is counted.
+    let n = c.tokens;
+    if 5 * n <= words {
+        return false;
+    }
+    words < 5 * placeholders(sheet, c)
 }
 
 fn sound(
@@ -210,8 +215,8 @@ pub extern "C" fn twigmantle_layout(sheet: &[u8], text: &mut [u8]) -> Report
     ensures { λ r. ⌜ now (text .exit) ≡ bufferAfter (now (sheet .entry)) (length (now (text .entry))) ⌝ }
     ensures { λ r. ⌜ Faithful (now (sheet .entry)) r (now (text .exit)) ⌝ }
 {
-    let mut list: [u32; 1] = [0; 1];
-    let mut none: [u32; 1] = [0; 1];
+    let mut list: [u32; 0] = [0; 0];
+    let mut none: [u32; 0] = [0; 0];
     called(sheet, text, &mut list, false, &mut none, false)
 }
 
@@ -224,7 +229,7 @@ pub extern "C" fn twigmantle_layout_rows(sheet: &[u8], text: &mut [u8], rows: &m
     ensures { λ r. ⌜ Faithful (now (sheet .entry)) r (now (text .exit)) ⌝ }
     ensures { λ r. ⌜ Pointed (now (sheet .entry)) r (now (text .exit)) (now (rows .exit)) ⌝ }
 {
-    let mut none: [u32; 1] = [0; 1];
+    let mut none: [u32; 0] = [0; 0];
     called(sheet, text, rows, true, &mut none, false)
 }
 
@@ -236,7 +241,7 @@ pub extern "C" fn twigmantle_layout_once(sheet: &[u8], text: &mut [u8], table: &
     ensures { λ r. ⌜ now (table .exit) ≡ replicate (length (now (table .entry))) 0 ⌝ }
     ensures { λ r. ⌜ Faithful (now (sheet .entry)) r (now (text .exit)) ⌝ }
 {
-    let mut list: [u32; 1] = [0; 1];
+    let mut list: [u32; 0] = [0; 0];
     called(sheet, text, &mut list, false, table, true)
 }
 

@@ -313,7 +313,7 @@ finish-requires : tie.Need-finish-requires Inv-loop μ-loop
 finish-requires c κs =
     let l = c .before .before .before .before .loop in
     let start = c .before .before .before .before .before .before .before .before .before .before .before .before .before .before .before .before .before .before .before in
-    (l .inv .1 .steady .held, (l .inv .1 .fine, (run-short (now (start .args .sheet)) (start .args .x) _ (l .i) (l .s) (l .switch) _ (start .pre .0) (l .inv .1) (c .before .before .before .loop-test .left), l .inv .2 .listed .listed)))
+    (l .inv .1 .steady .held, (l .inv .1 .fine, (run-short (now (start .args .sheet)) (start .args .x) _ (l .i) (l .s) (l .switch) _ (start .pre .0) (l .inv .1) (c .before .before .before .loop-test .left), l .inv .2 .listed)))
 
 same-length-3 : tie.Need-same-length-3 Inv-loop μ-loop
 same-length-3 c = let l = c .before .before .before .before .before .before .before .before .before .loop in search (needs, l .inv .0)

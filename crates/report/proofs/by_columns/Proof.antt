@@ -1,9 +1,9 @@
-use Rattle.report.proofs.by_columns.Statement.{statement}
-use Rattle.report.proofs.by_columns.Tie as tie
 use borrow.Author.Needs.{needs}
 use native.Mathlib.Omega.{arith}
 use Prim.Native.Nat.{_-_}
-use Rattle.report.proofs.MeasureLaws.{Counted, none-counted, counted-on, by-turn, by-size}
+use Rattle.report.proofs.MeasureLaws.{Counted, none-counted, by-eight, by-run, by-turn, by-width}
+use Rattle.report.proofs.by_columns.Statement.{statement}
+use Rattle.report.proofs.by_columns.Tie as tie
 
 abbrev Inv-loop : tie.InvT-loop
 Inv-loop text len m₀ i₀ m i = Counted text len i m
@@ -20,14 +20,14 @@ sub-loop c = search needs
 measured-requires : tie.Need-measured-requires Inv-loop μ-loop
 measured-requires c κs = search needs
 
-add-goes-on : tie.Need-add-goes-on Inv-loop μ-loop
-add-goes-on c = search needs
-
 add-i : tie.Need-add-i Inv-loop μ-loop
 add-i c = search needs
 
 sub-plain-run : tie.Need-sub-plain-run Inv-loop μ-loop
 sub-plain-run c = search needs
+
+add-plain-run : tie.Need-add-plain-run Inv-loop μ-loop
+add-plain-run c = search needs
 
 plain-run-requires : tie.Need-plain-run-requires Inv-loop μ-loop
 plain-run-requires c κs = search needs
@@ -37,16 +37,50 @@ add-i-2 c = search needs
 
 passed-requires : tie.Need-passed-requires Inv-loop μ-loop
 passed-requires c κs =
-    let l = c .before .before .before .before .before .loop in
-    let a = c .before .before .before .before .before .before .before .args in
-    let on = counted-on (a .text .now) (a .len) (l .i) (l .m) (search needs) (l .inv) 8 (search needs) (c .before .before .before .measured .result) (c .before .before .before .measured .ensures) in
+    let at = c .before .before .before in
+    let l = at .before .before .loop in
+    let start = at .before .before .before .before in
+    let a = start .args in
+    let on = by-eight (a .text .now) (a .len) (l .i) (l .m) _ (start .pre .0) (l .inv) (search needs) (at .measured .ensures) in
+    omega (arith, on .narrow)
+
+sub-tab-run : tie.Need-sub-tab-run Inv-loop μ-loop
+sub-tab-run c = search needs
+
+add-tab-run : tie.Need-add-tab-run Inv-loop μ-loop
+add-tab-run c = search needs
+
+tab-run-requires : tie.Need-tab-run-requires Inv-loop μ-loop
+tab-run-requires c κs = search needs
+
+add-i-3 : tie.Need-add-i-3 Inv-loop μ-loop
+add-i-3 c = search needs
+
+tabbed-requires : tie.Need-tabbed-requires Inv-loop μ-loop
+tabbed-requires c κs =
+    let past = c .before .before .before in
+    let run = past .before in
+    let at = run .before .before .before in
+    let l = at .before .before .loop in
+    let start = at .before .before .before .before in
+    let a = start .args in
+    let on = by-run (a .text .now) (a .len) (l .i) (l .m) _ (start .pre .0) (l .inv) (search needs) (at .measured .ensures) _ _ (run .plain-run .ensures .0) (run .plain-run .ensures .1) (past .passed .ensures) in
     omega (arith, on .narrow)
 
 loop-less : tie.Need-loop-less Inv-loop μ-loop
 loop-less c = search needs
 
 loop-again : tie.Need-loop-again Inv-loop μ-loop
-loop-again c = search (needs, by-turn)
+loop-again c =
+    let tabs = c .before in
+    let past = tabs .before .before .before in
+    let run = past .before in
+    let at = run .before .before .before in
+    let l = at .before .before .loop in
+    let start = at .before .before .before .before in
+    let a = start .args in
+    by-turn (a .text .now) (a .len) (l .i) (l .m) _ (start .pre .0) (l .inv) (search needs) (at .measured .ensures) _ _ (run .plain-run .ensures .0) (run .plain-run .ensures .1) (past .passed .ensures)
+    _ _ (tabs .tab-run .ensures .0) (tabs .tab-run .ensures .1) (c .tabbed .ensures)
 
 sub-measured : tie.Need-sub-measured Inv-loop μ-loop
 sub-measured c = search needs
@@ -55,7 +89,7 @@ measured-requires-2 : tie.Need-measured-requires-2 Inv-loop μ-loop
 measured-requires-2 c κs = search needs
 
 returns : tie.Need-returns Inv-loop μ-loop
-returns c = search (needs, by-size)
+returns c = search (needs, by-width)
 
 pub by-columns-spec : {M : Type 1} → statement M
 by-columns-spec =
@@ -66,12 +100,17 @@ by-columns-spec =
     loop-holds
     sub-loop
     measured-requires
-    add-goes-on
     add-i
     sub-plain-run
+    add-plain-run
     plain-run-requires
     add-i-2
     passed-requires
+    sub-tab-run
+    add-tab-run
+    tab-run-requires
+    add-i-3
+    tabbed-requires
     loop-less
     loop-again
     sub-measured

@@ -1,7 +1,7 @@
+use borrow.Author.Needs.{needs}
 use mathlib.Core.Path.{_≡_}
 use Prim.Native.Nat.{_+_, _-_, _*_, _≤_}
 use lib.ListN.{drop}
-use borrow.Author.Needs.{needs}
 use Rattle.ascii.specs.Part.{part}
 use Rattle.report.specs.Measured.{measure}
 use Rattle.report.proofs.MeasureLaws.{by-byte, by-byte-column, by-bytes}
@@ -9,27 +9,21 @@ use Rattle.report.proofs.measured.Statement.{statement}
 use Rattle.report.proofs.measured.Tie as tie
 
 abbrev Inv-loop : tie.InvT-loop
-Inv-loop text start n lines₀ at₀ best₀ i₀ lines at best i =
-    (i ≤ n) × (lines ≤ lines₀ + i) × (at ≤ at₀ + 8 * i)
-    × (measure (record { lines = lines; at = at; best = best }) (drop i (part text start n)) ≡ measure (record { lines = lines₀; at = at₀; best = best₀ }) (part text start n))
+Inv-loop text start n at₀ best₀ i₀ at best i =
+    (i ≤ n) × (at ≤ at₀ + 8 * i)
+    × (measure (record { at = at; best = best }) (drop i (part text start n)) ≡ measure (record { at = at₀; best = best₀ }) (part text start n))
 
 abbrev μ-loop : tie.MeasureT-loop
-μ-loop text start n lines₀ at₀ best₀ i₀ lines at best i = n - i
+μ-loop text start n at₀ best₀ i₀ at best i = n - i
 
 loop-holds : tie.Need-loop-holds Inv-loop μ-loop
 loop-holds c = search needs
 
-add-b : tie.Need-add-b Inv-loop μ-loop
-add-b c = search needs
+add-column-after : tie.Need-add-column-after Inv-loop μ-loop
+add-column-after c = search needs
 
-shared-slice-read-b : tie.Need-shared-slice-read-b Inv-loop μ-loop
-shared-slice-read-b c = search needs
-
-feeds-requires : tie.Need-feeds-requires Inv-loop μ-loop
-feeds-requires c κs = search needs
-
-add-lines : tie.Need-add-lines Inv-loop μ-loop
-add-lines c = search needs
+shared-slice-read-column-after : tie.Need-shared-slice-read-column-after Inv-loop μ-loop
+shared-slice-read-column-after c = search needs
 
 column-after-requires : tie.Need-column-after-requires Inv-loop μ-loop
 column-after-requires c κs = search needs
@@ -56,10 +50,8 @@ measured-spec =
     Inv-loop
     μ-loop
     loop-holds
-    add-b
-    shared-slice-read-b
-    feeds-requires
-    add-lines
+    add-column-after
+    shared-slice-read-column-after
     column-after-requires
     larger-requires
     add-i

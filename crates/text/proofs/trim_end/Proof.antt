@@ -2,20 +2,26 @@ use borrow.Author.Needs.{needs}
 use borrow.Author.Tests.{not-true, not-false}
 use lib.ListN.{length}
 use Rattle.rules.specs.Text.{cut}
-use Rattle.text.specs.Held.{textOf, cutBytes}
-use Rattle.text.proofs.CutLaws.{Cutting, cut-starts, cut-goes, cut-stops, cut-ends}
+use Rattle.text.specs.Held.{textOf, cutTo, cutBytes}
+use Rattle.text.proofs.CutLaws.{Cutting, cut-goes, cut-stops, cut-ends}
+use Rattle.text.proofs.EightLaws.{eights-go, goes-on, all-cut}
 use Rattle.text.proofs.trim_end.Statement.{statement}
 use Rattle.text.proofs.trim_end.Tie as tie
 
 abbrev Inv-loop : tie.InvT-loop
-Inv-loop text₀ white fault floor low len₀ text len =
-    Cutting (length text₀) (cut (cutBytes white) (textOf (record { len = len₀; floor = floor; low = low; fault = fault }) text₀)) (cutBytes white) len floor low fault text
+Inv-loop text₀ white fault floor low full len₀ text len =
+    Cutting (length text₀) (cut (cutBytes white) (textOf (cutTo len₀ floor low fault) text₀)) (cutBytes white) len floor low fault text
 
 abbrev μ-loop : tie.MeasureT-loop
-μ-loop text₀ white fault floor low len₀ text len = len
+μ-loop text₀ white fault floor low full len₀ text len = len
+
+cut-eights-requires : tie.Need-cut-eights-requires Inv-loop μ-loop
+cut-eights-requires c κs = search needs
 
 loop-holds : tie.Need-loop-holds Inv-loop μ-loop
-loop-holds c = search (needs, cut-starts)
+loop-holds c =
+    let entry = c .before .before .before .before .before in
+    goes-on (eights-go (entry .args .white) (entry .args .t) _ _ _ (search needs) (c .before .before .cut-eights .ensures))
 
 sub-last : tie.Need-sub-last Inv-loop μ-loop
 sub-last c = search needs
@@ -34,7 +40,10 @@ same-length c = search needs
 
 returns : tie.Need-returns Inv-loop μ-loop
 returns c =
-    cut-stops (c .before .before .before .before .before .loop .inv) _ (search needs) (c .before .before .is-cut .ensures) _ (not-true _ (c .before .if1 .taken)) (c .lowered .ensures)
+    let called = c .before .before .before .before .before .before .before .before in
+    let entry = called .before .before .before in
+    all-cut (eights-go (entry .args .white) (entry .args .t) _ _ _ (search needs) (called .cut-eights .ensures)) _ _
+    (cut-stops (c .before .before .before .before .before .loop .inv) _ (search needs) (c .before .before .is-cut .ensures) _ (not-true _ (c .before .if1 .taken)) (c .lowered .ensures))
 
 slice-write-text : tie.Need-slice-write-text Inv-loop μ-loop
 slice-write-text c = search needs
@@ -52,7 +61,11 @@ same-length-2 : tie.Need-same-length-2 Inv-loop μ-loop
 same-length-2 c = search needs
 
 returns-2 : tie.Need-returns-2 Inv-loop μ-loop
-returns-2 c = cut-ends (c .before .before .loop .inv) _ (c .before .loop-test .left) (c .lowered2 .ensures)
+returns-2 c =
+    let called = c .before .before .before .before .before in
+    let entry = called .before .before .before in
+    all-cut (eights-go (entry .args .white) (entry .args .t) _ _ _ (search needs) (called .cut-eights .ensures)) _ _
+    (cut-ends (c .before .before .loop .inv) _ (c .before .loop-test .left) (c .lowered2 .ensures))
 
 pub trim-end-spec : {M : Type 1} → statement M
 trim-end-spec =
@@ -60,6 +73,7 @@ trim-end-spec =
     (tie.spec
     Inv-loop
     μ-loop
+    cut-eights-requires
     loop-holds
     sub-last
     slice-read-is-cut

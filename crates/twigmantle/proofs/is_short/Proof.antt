@@ -1,19 +1,31 @@
-use Rattle.twigmantle.proofs.Laws.{five-fit, by-asked, by-unasked}
+use Rattle.twigmantle.proofs.Laws.{five-fit, by-asked, by-unasked, by-ample}
+use denote.Ref.{now}
 use borrow.Author.Needs.{needs}
+use borrow.Author.Tests.{not-true, not-false}
 use Rattle.twigmantle.proofs.is_short.Statement.{statement}
 use Rattle.twigmantle.proofs.is_short.Tie as tie
+
+returns : tie.Need-returns
+returns c =
+    let a = c .before .before .args in
+    by-unasked (now (a .sheet)) (a .words) (a .c) (a .with-rows) (not-true (a .with-rows) (c .if1 .taken))
+
+mul-if2 : tie.Need-mul-if2
+mul-if2 c = search needs
+
+returns-2 : tie.Need-returns-2
+returns-2 c = by-ample _ _ _ (c .before .before .before .args .with-rows) (c .before .before .before .pre .1) (c .if2 .taken)
 
 placeholders-requires : tie.Need-placeholders-requires
 placeholders-requires c κs = search needs
 
 mul-result : tie.Need-mul-result
-mul-result c = let h = five-fit _ 0 _ (c .before .before .before .pre .0) _ (c .placeholders .ensures) in search (needs, h)
+mul-result c = let h = five-fit _ 0 _ (c .before .before .before .before .pre .0) _ (c .placeholders .ensures) in search (needs, h)
 
-returns : tie.Need-returns
-returns c = by-asked _ _ _ _ _ (c .before .before .before .pre .1) (c .before .if1 .taken) (c .placeholders .ensures)
-
-returns-2 : tie.Need-returns-2
-returns-2 c = by-unasked _ _ _ _ (c .if1 .left)
+returns-3 : tie.Need-returns-3
+returns-3 c =
+    let start = c .before .before .before .before in
+    by-asked _ _ _ (start .args .with-rows) _ (start .pre .1) (not-false (start .args .with-rows) (c .before .before .if1 .left)) (c .placeholders .ensures)
 
 pub is-short-spec : {M : Type 1} → statement M
-is-short-spec = tie.close (tie.spec placeholders-requires mul-result returns returns-2)
+is-short-spec = tie.close (tie.spec returns mul-if2 returns-2 placeholders-requires mul-result returns-3)

@@ -1,7 +1,7 @@
 use native.Mathlib.Omega.{arith}
 use borrow.Author.Tests.{eq-eqb, ne-eqb}
-use Rattle.report.proofs.feeds.Statement.{statement}
-use Rattle.report.proofs.feeds.Tie as tie
+use Rattle.report.proofs.equal.Statement.{statement}
+use Rattle.report.proofs.equal.Tie as tie
 
 returns : tie.Need-returns
 returns c = (simp (eq-eqb _ _ (c .if1 .taken)), omega arith)
@@ -9,5 +9,5 @@ returns c = (simp (eq-eqb _ _ (c .if1 .taken)), omega arith)
 returns-2 : tie.Need-returns-2
 returns-2 c = (simp (ne-eqb _ _ (c .if1 .left)), omega arith)
 
-pub feeds-spec : {M : Type 1} → statement M
-feeds-spec = tie.close (tie.spec returns returns-2)
+pub equal-spec : {M : Type 1} → statement M
+equal-spec = tie.close (tie.spec returns returns-2)

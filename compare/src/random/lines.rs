@@ -1,0 +1,65 @@
+//! Values of many lines: short ones, with one about as long as the longest here and there, and runs of
+//! tabs. The call passes what cannot be the longest line many bytes at a time, in stretches of 16, 64
+//! and 192 bytes.
+
+use super::Dice;
+use crate::sheet::*;
+
+/// Lengths about which the call goes another way.
+const MOST: [usize; 16] = [0, 1, 1, 2, 3, 3, 4, 6, 7, 8, 9, 15, 16, 17, 30, 70];
+const SIZES: [usize; 8] = [20, 60, 75, 80, 140, 200, 400, 600];
+
+fn line(dice: &mut Dice, length: usize) -> Vec<u8> {
+    let other = dice.pick(b"xxxx \r\t");
+    (0..length).map(|at| if at + 2 == length { other } else { b'x' }).collect()
+}
+
+/// All of one length, or of any up to it, and some a little longer.
+fn lines(dice: &mut Dice) -> Vec<u8> {
+    let (most, size, steady) = (dice.pick(&MOST), dice.pick(&SIZES), dice.one_in(2));
+    let mut value = Vec::new();
+    while value.len() < size {
+        let length = if steady { most } else { dice.below(most + 1) };
+        let longer = if dice.one_in(30) { 1 + dice.below(2) } else { 0 };
+        value.extend(line(dice, length + longer));
+        value.push(b'\n');
+    }
+    if dice.one_in(2) {
+        value.extend(line(dice, most));
+    }
+    value
+}
+
+/// Tabs in a row, about 16 and 32 of them, after some letters.
+fn tabs(dice: &mut Dice) -> Vec<u8> {
+    let letters = dice.below(18);
+    let mut value = line(dice, letters);
+    value.resize(value.len() + dice.pick(&[7, 8, 15, 16, 17, 23, 24, 25, 40, 60]), b'\t');
+    value.extend(line(dice, 2));
+    value
+}
+
+fn long(dice: &mut Dice, old: &mut Vec<u8>) {
+    let at = dice.below(old.len() + 1);
+    match dice.below(6) {
+        0 => *old = lines(dice),
+        1 => drop(old.splice(at..at, lines(dice))),
+        2 if dice.one_in(2) => old.extend(tabs(dice)),
+        _ => {}
+    }
+}
+
+/// A comment keeps its start, so that a switch comment stays one.
+pub fn lined(dice: &mut Dice, mut sheet: Sheet) -> Sheet {
+    for token in &mut sheet.tokens {
+        match token.kind {
+            LINE_COMMENT | BLOCK_COMMENT if dice.one_in(4) => token.value.extend(lines(dice)),
+            LINE_COMMENT | BLOCK_COMMENT => {}
+            _ => long(dice, &mut token.value),
+        }
+    }
+    for param in &mut sheet.params {
+        long(dice, &mut param.value);
+    }
+    sheet
+}

@@ -1,0 +1,66 @@
+//! Texts of many lines, and of many tabs, whose lines and width are known. The call passes what cannot be the longest
+//! line many bytes at a time: here the longest stands where such a stretch begins or ends.
+
+use super::{Case, ROOM, of};
+use crate::model::Answer;
+use crate::sheet::WORD;
+
+/// One word, which is laid out as it is.
+fn at(name: &'static str, value: String, lines: usize, width: usize) -> Case {
+    let wanted = Answer::Laid { text: value.clone().into(), lines, width };
+    Case { name, sheet: of(&[(WORD, &value)]), room: ROOM, wanted }
+}
+
+fn feeds(n: usize) -> String {
+    "\n".repeat(n)
+}
+
+/// A line of `width` after `n` line feeds and before 80 more; the first line has `first` bytes.
+fn after_feeds(first: usize, n: usize, width: usize) -> Case {
+    let value = "a".repeat(first) + &feeds(n) + &"b".repeat(width) + &feeds(80) + "c";
+    at("a longer line among line feeds", value, n + 81, width)
+}
+
+/// The same after `n` lines of `length`.
+fn after_lines(length: usize, n: usize, width: usize) -> Case {
+    let value = ("x".repeat(length) + "\n").repeat(n) + &"y".repeat(width) + &feeds(80) + "z";
+    at("a longer line among short ones", value, n + 81, width)
+}
+
+/// `n` tabs after so many letters, and a letter after them.
+fn after_tabs(letters: usize, n: usize, width: usize) -> Case {
+    at("a run of tabs", "x".repeat(letters) + &"\t".repeat(n) + "y", 1, width)
+}
+
+pub fn sheets() -> Vec<Case> {
+    let mut cases = vec![
+        at("line feeds alone", "a".to_owned() + &feeds(100) + "b", 101, 1),
+        at("as long as the first", "ab".to_owned() + &feeds(100) + "cd", 101, 2),
+        at("one byte, and two at the end", "a\n".repeat(50) + "bc", 51, 2),
+        at("each as long as the first", ("x".repeat(20) + "\n").repeat(10) + "y", 11, 20),
+        at(
+            "each one longer",
+            (1..=30).map(|n| "x".repeat(n) + "\n").collect::<String>() + "y",
+            31,
+            30,
+        ),
+        at(
+            "each one shorter",
+            (1..=30).rev().map(|n| "x".repeat(n) + "\n").collect::<String>() + "y",
+            31,
+            30,
+        ),
+        after_tabs(1, 40, 321),
+        after_tabs(8, 24, 201),
+        after_tabs(15, 17, 145),
+        after_tabs(16, 16, 145),
+        at("tabs and line feeds in turn", "a".to_owned() + &"\t\n".repeat(100) + "b", 101, 8),
+        at("letters and tabs in turn", "a\t".repeat(100) + "b", 1, 801),
+    ];
+    let lengths = || 1..=17;
+    cases.extend((60..=72).flat_map(|n| [after_feeds(1, n, 2), after_feeds(2, n, 3)]));
+    cases.extend(lengths().flat_map(|n| [20, 64, 70].map(|feeds| after_feeds(n, feeds, n + 1))));
+    cases.extend(lengths().flat_map(|n| [3, 8, 20].map(|count| after_lines(n, count, n + 1))));
+    cases.extend([31, 32, 33, 63, 64, 65].map(|n| after_lines(n, 3, n + 1)));
+    cases
+}

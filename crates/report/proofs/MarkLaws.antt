@@ -1,0 +1,112 @@
+-- Laws of the count of line feeds, and of whether a tab stands there. Assumes nothing.
+use mathlib.Core.Path.{_≡_, refl, sym, ap, _∙_}
+use mathlib.Core.Bool.{Bool, true, false, not, _&&_, _||_}
+use mathlib.Core.List.{List, [], _∷_, _++_}
+use Prim.Native.Nat.{ℕ, suc, _+_, _-_, _≤_, _<_}
+use native.Mathlib.Numerals.{add-one}
+use native.Mathlib.Omega.{arith}
+use lib.Bits.{bitOr, or-add-and, and-le-l, and-le-r}
+use lib.Dec.{eqb}
+use lib.ListN.{length, take, getD}
+use lib.Seq.{length-take-le, take-add}
+use borrow.Author.Tests.{eq-eqb, ne-eqb, eqb-true, eqb-false}
+use Rattle.rules.specs.Base.{if_then_else_}
+use Rattle.rules.specs.Text.{lineFeeds, lines, width}
+use Rattle.rules.proofs.Columns.{longestLine, hasTab, without-tabs}
+use Rattle.ascii.specs.Part.{part, has}
+use Rattle.ascii.proofs.PartLaws.{part-suc}
+use Rattle.ascii.proofs.FindLaws.{has-both}
+use Rattle.report.specs.declared.Size.{Size}
+use Rattle.report.specs.declared.Marks.{Marks}
+use Rattle.report.specs.Measured.{Marked}
+use Rattle.report.specs.Finished.{sizeOf}
+
+-- `|` is 0 exactly where both are
+pub or-zero : (s t : ℕ) → eqb (bitOr s t) 0 ≡ (eqb s 0 && eqb t 0)
+or-zero s t = go (eqb s 0) (eqb t 0) refl refl
+  where
+    go : (p q : Bool) → eqb s 0 ≡ p → eqb t 0 ≡ q → eqb (bitOr s t) 0 ≡ (p && q)
+    go true true e f =
+        let a = eqb-true s 0 e in
+        let b = eqb-true t 0 f in
+        let o = or-add-and s t in
+        eq-eqb (bitOr s t) 0 (omega arith)
+    go true false e f = ne-eqb (bitOr s t) 0 (λ z. eqb-false t 0 f (let o = or-add-and s t in let k = and-le-l s t in let a = eqb-true s 0 e in omega arith))
+    go false q e f = ne-eqb (bitOr s t) 0 (λ z. eqb-false s 0 e (let o = or-add-and s t in let k = and-le-r s t in omega arith))
+
+-- ---- two parts
+
+feeds-both : (v w : List ℕ) → lineFeeds (v ++ w) ≡ lineFeeds v + lineFeeds w
+feeds-both [] w = omega arith
+feeds-both (x ∷ xs) w = go (eqb x 10) (feeds-both xs w)
+  where
+    go : (b : Bool) → lineFeeds (xs ++ w) ≡ lineFeeds xs + lineFeeds w → (if b then suc (lineFeeds (xs ++ w)) else lineFeeds (xs ++ w)) ≡ (if b then suc (lineFeeds xs) else lineFeeds xs) + lineFeeds w
+    go true e = omega arith
+    go false e = e
+
+not-either : (p q : Bool) → (not p && not q) ≡ not (p || q)
+not-either true q = refl
+not-either false q = refl
+
+marked-both : (v w : List ℕ) (f g s t : ℕ) → Marked v (record { feeds = f; tab = s }) → Marked w (record { feeds = g; tab = t }) → Marked (v ++ w) (record { feeds = f + g; tab = bitOr s t })
+marked-both v w f g s t a b =
+    record {
+      counted = let e = feeds-both v w in let k = a .counted in let l = b .counted in omega arith;
+      seen = or-zero s t ∙ rw (a .seen, b .seen, has-both 9 9 v w) (not-either (has 9 9 v) (has 9 9 w));
+    }
+
+-- ---- a byte, and a block
+
+marked-byte : (x f t : ℕ) → f ≡ (if eqb x 10 then 1 else 0) → t ≡ (if eqb x 9 then 1 else 0) → Marked (x ∷ []) (record { feeds = f; tab = t })
+marked-byte x f t e g = record { counted = e; seen = rw g (go (eqb x 9)) }
+  where
+    go : (b : Bool) → eqb (if b then 1 else 0) 0 ≡ not ((b || b) || false)
+    go true = refl
+    go false = refl
+
+pub by-mark : (d : List ℕ) (start i f t g s : ℕ) → start + i < length d → Marked (part d start i) (record { feeds = f; tab = t })
+    → g ≡ (if eqb (getD d (start + i) 0) 10 then 1 else 0) → s ≡ (if eqb (getD d (start + i) 0) 9 then 1 else 0) → Marked (part d start (i + 1)) (record { feeds = f + g; tab = bitOr t s })
+by-mark d start i f t g s h m e k =
+    let x = getD d (start + i) 0 in
+    rw (part-suc d start i h) (marked-both (part d start i) (x ∷ []) f g t s m (marked-byte x g s e k))
+
+pub by-block : (d : List ℕ) (i k f t : ℕ) (m : Marks) → Marked (take i d) (record { feeds = f; tab = t }) → Marked (part d i k) m → Marked (take (i + k) d) (record { feeds = f + m .feeds; tab = bitOr t (m .tab) })
+by-block d i k f t m a b = rw (take-add i k d) (marked-both (take i d) (part d i k) f (m .feeds) t (m .tab) a b)
+
+pub by-last-block : (d : List ℕ) (len i f t : ℕ) (m : Marks) → i ≤ len → Marked (take i d) (record { feeds = f; tab = t }) → Marked (part d i (len - i)) m → Marked (take len d) (record { feeds = f + m .feeds; tab = bitOr t (m .tab) })
+by-last-block d len i f t m h a b = let e : i + (len - i) ≡ len = omega arith in rw e at (by-block d i (len - i) f t m a b)
+
+-- ---- the size
+
+lines-some : (v : List ℕ) → 0 < length v → lines v ≡ lineFeeds v + 1
+lines-some [] h = absurd (omega arith)
+lines-some (x ∷ xs) h = sym (add-one _)
+
+size : ℕ → ℕ → Size
+size n w = record { lines = n; width = w }
+
+pub by-no-size : (d : List ℕ) (len : ℕ) → len ≡ 0 → record { lines = 0; width = 0 } ≡ sizeOf (take len d)
+by-no-size d len z = rw z
+
+no-tab : (v : List ℕ) → has 9 9 v ≡ false → hasTab v ≡ false
+no-tab [] h = refl
+no-tab (x ∷ xs) h = go (eqb x 9) (no-tab xs) h
+  where
+    go : (b : Bool) → (has 9 9 xs ≡ false → hasTab xs ≡ false) → ((b || b) || has 9 9 xs) ≡ false → (b || hasTab xs) ≡ false
+    go true f h = h
+    go false f h = f h
+
+module _ (d : List ℕ) (len : ℕ) (m : Marks) (h : len ≤ length d) (z : len ≡ 0 → ⊥) (k : Marked (take len d) m) where
+  pub by-size : (w : ℕ) → w ≡ width (take len d) → record { lines = m .feeds + 1; width = w } ≡ sizeOf (take len d)
+  unfolding size
+  by-size w f =
+      let l = length-take-le len d h in
+      let s : 0 < length (take len d) = omega arith in
+      ap (λ (n : ℕ). size (n + 1) w) (k .counted) ∙ ap (λ (n : ℕ). size n w) (sym (lines-some (take len d) s)) ∙ ap (size (lines (take len d))) f
+
+  pub by-longest : (w : ℕ) → m .tab ≡ 0 → w ≡ longestLine (take len d) → record { lines = m .feeds + 1; width = w } ≡ sizeOf (take len d)
+  by-longest w t f = by-size w (f ∙ sym (without-tabs (take len d) (no-tab (take len d) (none (has 9 9 (take len d)) (sym (k .seen) ∙ eq-eqb (m .tab) 0 t)))))
+    where
+      none : (b : Bool) → not b ≡ true → b ≡ false
+      none true e = sym e
+      none false e = refl

@@ -1,0 +1,155 @@
+// The longest line in bytes. Where a line of `best` bytes is known, one of at most `best` bytes changes nothing: if a line feed
+// stands among the next best + 1 bytes, all up to it may be passed. There are three ways to pass many bytes at once, each for
+// texts of another kind; a line that none of them passes is measured.
+use super::larger;
+use ascii::find;
+use ascii::in_run;
+ghost use mathlib.Core.Path.{_≡_};
+ghost use mathlib.Core.Bool.{true};
+ghost use Prim.Native.Nat.{_+_, _-_, _^_, _≤_, _<_, min};
+ghost use lib.Dec.{eqb};
+ghost use lib.ListN.{length, take, getD};
+ghost use Rattle.rules.proofs.Columns.{longestLine};
+ghost use Rattle.ascii.specs.Part.{part, has};
+ghost use Rattle.report.specs.Short.{Passed, InEach};
+
+// ---- a line feed in every window
+
+fn least(a: u8, b: u8) -> u8
+    ensures { λ r. ⌜ r ≡ min a b ⌝ }
+{
+    if a < b { a } else { b }
+}
+
+// 0 where a line feed is among w bytes.
+fn among(text: &[u8], at: usize, w: usize) -> u8
+    requires { ⌜ at + w ≤ length (now text) ⌝ }
+    ensures { λ r. ⌜ eqb r 0 ≡ has 10 10 (part (now (text .entry)) at w) ⌝ }
+{
+    let mut lowest: u8 = 255;
+    let mut i = 0;
+    while i < w {
+        lowest = least(lowest, text[at + i] ^ 10);
+        i += 1;
+    }
+    lowest
+}
+
+// Whether a line feed is in each of 64 windows of far + w bytes. One of two parts of w bytes has it: the first, or the one `far` on.
+// No branch for each window, so that with a fixed w they are looked at many at a time.
+fn every(text: &[u8], start: usize, far: usize, w: usize) -> bool
+    requires { ⌜ start + 64 + far + w ≤ length (now text) ⌝ }
+    ensures { λ r. ⌜ (r ≡ true → InEach (now (text .entry)) start (far + w) 64) ⌝ }
+{
+    let mut all: u8 = 0;
+    let mut k = 0;
+    while k < 64 {
+        let at = start + k;
+        all |= least(among(text, at, w), among(text, at + far, w));
+        k += 1;
+    }
+    all == 0
+}
+
+// Whether 64 bytes may be passed: a line feed is in each window of best + 1 bytes. For wide windows the other ways are cheaper.
+fn are_short(text: &[u8], start: usize, n: usize, best: usize) -> bool
+    requires { ⌜ start + n ≤ length (now text) ⌝ }
+    ensures { λ r. ⌜ (r ≡ true → Passed (now (text .entry)) start n best 64) ⌝ }
+{
+    if 15 < best {
+        return false;
+    }
+    if n < 80 {
+        return false;
+    }
+    if best < 1 {
+        return every(text, start, 0, 1);
+    }
+    if best < 4 {
+        return every(text, start, best - 1, 2);
+    }
+    if best < 8 {
+        return every(text, start, best - 3, 4);
+    }
+    every(text, start, best - 7, 8)
+}
+
+// ---- a line feed far on
+
+// A line feed just `best` bytes on, again and again: lines of one length.
+fn hops(text: &[u8], start: usize, n: usize, best: usize) -> usize
+    requires { ⌜ start + n ≤ length (now text) ⌝ }
+    ensures { λ r. ⌜ Passed (now (text .entry)) start n best r ⌝ }
+{
+    let mut i = 0;
+    // For so few bytes the windows are cheaper.
+    if best < 4 {
+        return i;
+    }
+    while best < n - i {
+        if text[start + i + best] != 10 {
+            return i;
+        }
+        i += best + 1;
+    }
+    i
+}
+
+// How many bytes there are up to the last line feed, and with it: looked for from the end, it is the farthest.
+fn past_last(text: &[u8], start: usize, n: usize) -> usize
+    requires { ⌜ start + n ≤ length (now text) ⌝ }
+    ensures { λ r. ⌜ (r ≤ n) × (0 < r → getD (now (text .entry)) (start + r - 1) 0 ≡ 10) ⌝ }
+{
+    let mut j = n;
+    while 16 <= j {
+        if in_run(text, start + j - 16, 16, 10, 10) {
+            break;
+        }
+        j -= 16;
+    }
+    while 0 < j {
+        if text[start + j - 1] == 10 {
+            return j;
+        }
+        j -= 1;
+    }
+    j
+}
+
+// ---- the whole
+
+fn passed_lines(text: &[u8], start: usize, n: usize, best: usize) -> usize
+    requires { ⌜ start + n ≤ length (now text) ⌝ }
+    ensures { λ r. ⌜ Passed (now (text .entry)) start n best r ⌝ }
+{
+    if n <= best {
+        return n;
+    }
+    let run = hops(text, start, n, best);
+    if run != 0 {
+        return run;
+    }
+    if are_short(text, start, n, best) {
+        return 64;
+    }
+    past_last(text, start, best + 1)
+}
+
+pub fn longest_line(text: &[u8], len: usize) -> usize
+    requires { ⌜ (len ≤ length (now text)) × (len < 2 ^ 60) ⌝ }
+    ensures { λ r. ⌜ r ≡ longestLine (take len (now (text .entry))) ⌝ }
+{
+    let mut best = 0;
+    let mut i = 0;
+    while i < len {
+        let run = passed_lines(text, i, len - i, best);
+        if run != 0 {
+            i += run;
+            continue;
+        }
+        let line = find(text, i, len - i, 10);
+        best = larger(line, best);
+        i += line + 1;
+    }
+    best
+}
