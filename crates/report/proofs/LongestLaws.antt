@@ -7,16 +7,15 @@ use native.Mathlib.Numerals.{add-one}
 use native.Mathlib.Omega.{arith}
 use lib.Bits.{bitOr, bitXor, xor-add-and, and-le-l, and-le-r}
 use lib.Dec.{eqb}
-use lib.ListN.{length, take, drop, getD, length-drop}
+use lib.ListN.{length, take, drop, getD, replicate, length-drop}
 use lib.Seq.{drop-drop, take-take, getD-take, getD-drop}
 use borrow.Author.Count.{below-more}
 use borrow.Author.Tests.{eq-eqb, ne-eqb, eqb-true, eqb-false}
-use Rattle.rules.proofs.Columns.{longestFrom, longestLine}
+use Rattle.rules.proofs.Columns.{longestFrom}
 use Rattle.ascii.specs.Part.{part, has, before}
-use Rattle.ascii.proofs.PartLaws.{length-part, part-suc, part-drop, part-end, part-more}
+use Rattle.ascii.proofs.PartLaws.{length-part, part-cons, part-suc, part-drop, part-end, part-more}
 use Rattle.ascii.proofs.FindLaws.{has-both}
 use Rattle.report.specs.Short.{Passed, InEach}
-use Rattle.report.proofs.TrimLaws.{take-part, take-end}
 use Rattle.report.proofs.MarkLaws.{or-zero}
 
 -- ---- lists: a line of at most `best` bytes changes nothing
@@ -64,8 +63,17 @@ rest (x ∷ xs) at best h = go (eqb x 10) refl (rest xs 0 best (omega arith)) (r
     go true e f g = let m : max at best ≡ best = omega arith in rw (e, m) f
     go false e f g = rw e g
 
+-- empty lines
+empty : (v : List ℕ) (r best : ℕ) → take r v ≡ replicate r 10 → longestFrom 0 best (drop r v) ≡ longestFrom 0 best v
+empty v zero best e = refl
+empty [] (suc r) best e = refl
+empty (x ∷ xs) (suc r) best e =
+    let y : x ≡ 10 = ap (λ (l : List ℕ). getD l 0 0) e in
+    let m : max 0 best ≡ best = omega arith in
+    rw (eq-eqb x 10 y, m) (empty xs r best (ap (drop 1) e))
+
 -- a line that is measured
-exact : (v : List ℕ) (at best : ℕ) → longestFrom 0 (max (at + before 10 v) best) (drop (suc (before 10 v)) v) ≡ longestFrom at best v
+pub exact : (v : List ℕ) (at best : ℕ) → longestFrom 0 (max (at + before 10 v) best) (drop (suc (before 10 v)) v) ≡ longestFrom at best v
 exact [] at best = omega arith
 exact (x ∷ xs) at best = go (eqb x 10) refl (exact xs (suc at) best)
   where
@@ -175,23 +183,44 @@ module _ (d : List ℕ) (start n best : ℕ) (h : start + n ≤ length d) where
   pub by-windows : (w k : ℕ) (b : Bool) → (b ≡ true → InEach d start w k) → w ≤ best + 1 → k + w ≤ n → b ≡ true → Passed d start n best k
   by-windows w k b e c g f = record { within = omega arith; kept = by-each w k c g (e f) }
 
+  -- empty lines
+  pub by-feeds : (r : ℕ) → r ≤ n → part d start r ≡ replicate r 10 → Passed d start n best r
+  by-feeds r c e = record { within = c; kept = empty (part d start n) r best (take-take r n (drop start d) c ∙ e) }
+
+-- ---- the last line feed
+
+pub none-at-end : (d : List ℕ) (start n : ℕ) → has 10 10 (part d (start + n) (n - n)) ≡ false
+none-at-end d start n = let e : n - n ≡ 0 = omega arith in rw e
+
+-- none in k bytes before those that have none
+pub none-before : (d : List ℕ) (start n j k : ℕ) → k ≤ j → j ≤ n → has 10 10 (part d (start + j - k) k) ≡ false → has 10 10 (part d (start + j) (n - j)) ≡ false → has 10 10 (part d (start + (j - k)) (n - (j - k))) ≡ false
+none-before d start n j k h c e f =
+    let a : start + j - k ≡ start + (j - k) = omega arith in
+    let b : n - (j - k) ≡ k + (n - j) = omega arith in
+    let g : start + (j - k) + k ≡ start + j = omega arith in
+    let p : has 10 10 (part d (start + (j - k)) k) ≡ false = rw a at e in
+    rw (b, part-more d (start + (j - k)) k (n - j), has-both 10 10 (part d (start + (j - k)) k) (part d (start + (j - k) + k) (n - j)), p, g) f
+
+pub other-byte : (d : List ℕ) (i : ℕ) → i < length d → (getD d i 0 ≡ 10 → ⊥) → has 10 10 (part d i 1) ≡ false
+other-byte d i h z = let e = part-cons d i 0 h in rw (e, ne-eqb (getD d i 0) 10 z)
+
 -- ---- the loop
 
-module _ (d : List ℕ) (len i best : ℕ) (s : longestFrom 0 best (drop i (take len d)) ≡ longestLine (take len d)) where
-  pub by-run : (r : ℕ) → Passed d i (len - i) best r → longestFrom 0 best (drop (i + r) (take len d)) ≡ longestLine (take len d)
+module _ (d : List ℕ) (start n known i best : ℕ) (s : longestFrom 0 best (drop i (part d start n)) ≡ longestFrom 0 known (part d start n)) where
+  pub by-run : (r : ℕ) → Passed d (start + i) (n - i) best r → longestFrom 0 best (drop (i + r) (part d start n)) ≡ longestFrom 0 known (part d start n)
   by-run r p =
-      let a = take-part d len i in
-      ap (longestFrom 0 best) (sym (drop-drop r i (take len d)) ∙ ap (drop r) a) ∙ p .kept ∙ ap (longestFrom 0 best) (sym a) ∙ s
+      let a = part-drop d start n i in
+      ap (longestFrom 0 best) (sym (drop-drop r i (part d start n)) ∙ ap (drop r) a) ∙ p .kept ∙ ap (longestFrom 0 best) (sym a) ∙ s
 
-  pub by-line : (n m : ℕ) → n ≡ before 10 (part d i (len - i)) → m ≡ max n best → longestFrom 0 m (drop (i + (n + 1)) (take len d)) ≡ longestLine (take len d)
-  by-line n m e f =
-      let v = drop i (take len d) in
-      let a : n ≡ before 10 v = e ∙ ap (before 10) (sym (take-part d len i)) in
-      let b : max n best ≡ max (0 + before 10 v) best = omega arith in
-      let g : drop (i + (n + 1)) (take len d) ≡ drop (suc (before 10 v)) v = sym (drop-drop (n + 1) i (take len d)) ∙ ap (λ (j : ℕ). drop j v) (add-one n ∙ ap suc a) in
+  pub by-line : (l m : ℕ) → l ≡ before 10 (part d (start + i) (n - i)) → m ≡ max l best → longestFrom 0 m (drop (i + (l + 1)) (part d start n)) ≡ longestFrom 0 known (part d start n)
+  by-line l m e f =
+      let v = drop i (part d start n) in
+      let a : l ≡ before 10 v = e ∙ ap (before 10) (sym (part-drop d start n i)) in
+      let b : max l best ≡ max (0 + before 10 v) best = omega arith in
+      let g : drop (i + (l + 1)) (part d start n) ≡ drop (suc (before 10 v)) v = sym (drop-drop (l + 1) i (part d start n)) ∙ ap (λ (j : ℕ). drop j v) (add-one l ∙ ap suc a) in
       rw (f, b, g) (exact v 0 best ∙ s)
 
-  pub by-end : len ≤ length d → len ≤ i → best ≡ longestLine (take len d)
+  pub by-end : start + n ≤ length d → n ≤ i → best ≡ longestFrom 0 known (part d start n)
   by-end h c =
-      let m : longestFrom 0 best (drop i (take len d)) ≡ max 0 best = ap (longestFrom 0 best) (take-end d len i h c) in
+      let m : longestFrom 0 best (drop i (part d start n)) ≡ max 0 best = ap (longestFrom 0 best) (part-end d start n i h c) in
       omega arith

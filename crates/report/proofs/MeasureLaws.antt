@@ -7,13 +7,13 @@ use native.Mathlib.Numerals.{add-one}
 use native.Mathlib.Omega.{arith}
 use lib.Bits.{bitOr, bitXor}
 use lib.Dec.{eqb}
-use lib.ListN.{length, take, drop, getD, length-replicate, getD-replicate, replicate-append-replicate}
+use lib.ListN.{length, take, drop, getD, replicate, length-replicate, getD-replicate, replicate-append-replicate}
 use lib.Seq.{take-all}
 use borrow.Author.Tests.{eq-eqb, ne-eqb}
 use Rattle.rules.specs.Base.{if_then_else_, same}
 use Rattle.rules.specs.Text.{columnAfter, widthFrom, width}
 use Rattle.ascii.specs.Part.{part, has}
-use Rattle.ascii.proofs.PartLaws.{length-part, part-more, part-next, part-end}
+use Rattle.ascii.proofs.PartLaws.{length-part, part-more, part-next, part-end, part-drop}
 use Rattle.ascii.proofs.RunLaws.{told-more, same-true}
 use Rattle.ascii.proofs.FindLaws.{has-both}
 use Rattle.report.specs.declared.Measure.{Measure}
@@ -107,25 +107,31 @@ measure-plain m (x ∷ xs) u h =
     let b : max (suc (m .at) + length xs) (max (suc (m .at)) (m .best)) ≡ max (m .at + suc (length xs)) (m .best) = omega arith in
     ap (λ (k : Measure). measure k xs) o ∙ w ∙ ap (λ (k : ℕ). count k (max (suc (m .at) + length xs) (max (suc (m .at)) (m .best)))) a ∙ ap (count (m .at + suc (length xs))) b
 
+pub by-plain : (d : List ℕ) (start n : ℕ) (m : Measure) → start + n ≤ length d → m .at ≤ m .best → has 9 10 (part d start n) ≡ false → onward m n ≡ measure m (part d start n)
+by-plain d start n m h u p = ap (onward m) (sym (length-part d start n h)) ∙ sym (measure-plain m (part d start n) u p)
+
+-- ---- one byte again and again
+
+module _ (d : List ℕ) (start n b : ℕ) where
+  pub by-same : (i all : ℕ) → start + n ≤ length d → i < n → eqb all 0 ≡ same (part d start i) (take i (replicate n b))
+      → eqb (bitOr all (bitXor (getD d (start + i) 0) b)) 0 ≡ same (part d start (i + 1)) (take (i + 1) (replicate n b))
+  by-same i all h c e =
+      let l : length (replicate n b) ≡ n = length-replicate n b in
+      let g : getD (replicate n b) (0 + i) 0 ≡ b = getD-replicate n (0 + i) b 0 (omega arith) in
+      rw g at (told-more d (replicate n b) start 0 i all (omega arith) (omega arith) e)
+
+  pub by-all-same : (i all : ℕ) → i ≤ n → n ≤ i → eqb all 0 ≡ same (part d start i) (take i (replicate n b)) → eqb all 0 ≡ same (part d start n) (replicate n b)
+  by-all-same i all h c e =
+      let k : i ≡ n = omega arith in
+      let l : length (replicate n b) ≤ n = rw (length-replicate {A = ℕ} n b) (omega arith) in
+      let f : eqb all 0 ≡ same (part d start n) (take n (replicate n b)) = rw k at e in
+      f ∙ ap (same (part d start n)) (take-all n (replicate n b) l)
+
+pub by-more-same : (d : List ℕ) (start b i k : ℕ) (c : Bool) → c ≡ same (part d (start + i) k) (replicate k b) → c ≡ true → part d start i ≡ replicate i b → part d start (i + k) ≡ replicate (i + k) b
+by-more-same d start b i k c e f g =
+    part-more d start i k ∙ ap₂ (λ (v w : List ℕ). v ++ w) g (same-true (part d (start + i) k) (replicate k b) (sym e ∙ f)) ∙ replicate-append-replicate i k b
+
 -- ---- tabs in a row
-
-pub by-tab : (d : List ℕ) (start n i all : ℕ) → start + n ≤ length d → i < n → eqb all 0 ≡ same (part d start i) (take i (tabs n))
-    → eqb (bitOr all (bitXor (getD d (start + i) 0) 9)) 0 ≡ same (part d start (i + 1)) (take (i + 1) (tabs n))
-by-tab d start n i all h c e =
-    let l : length (tabs n) ≡ n = length-replicate n 9 in
-    let g : getD (tabs n) (0 + i) 0 ≡ 9 = getD-replicate n (0 + i) 9 0 (omega arith) in
-    rw g at (told-more d (tabs n) start 0 i all (omega arith) (omega arith) e)
-
-pub by-tabs : (d : List ℕ) (start n i all : ℕ) → i ≤ n → n ≤ i → eqb all 0 ≡ same (part d start i) (take i (tabs n)) → eqb all 0 ≡ same (part d start n) (tabs n)
-by-tabs d start n i all b c e =
-    let k : i ≡ n = omega arith in
-    let l : length (tabs n) ≤ n = rw (length-replicate {A = ℕ} n 9) (omega arith) in
-    let f : eqb all 0 ≡ same (part d start n) (take n (tabs n)) = rw k at e in
-    f ∙ ap (same (part d start n)) (take-all n (tabs n) l)
-
-pub by-more-tabs : (d : List ℕ) (start i k : ℕ) (b : Bool) → b ≡ same (part d (start + i) k) (tabs k) → b ≡ true → part d start i ≡ tabs i → part d start (i + k) ≡ tabs (i + k)
-by-more-tabs d start i k b e f g =
-    part-more d start i k ∙ ap₂ (λ (v w : List ℕ). v ++ w) g (same-true (part d (start + i) k) (tabs k) (sym e ∙ f)) ∙ replicate-append-replicate i k 9
 
 -- each goes to the next multiple of 8
 measure-tabs : (m : Measure) (n : ℕ) → measure m (tabs (suc n)) ≡ record { at = (m .at / 8 + suc n) * 8; best = max ((m .at / 8 + suc n) * 8) (m .best) }
@@ -144,56 +150,67 @@ by-no-tabs m n z = rw z
 
 -- ---- the loop
 
--- i bytes are counted
-pub record Counted (d : List ℕ) (len i : ℕ) (m : Measure) : Type 0 where
-  pub within : i ≤ len
-  pub narrow : m .at ≤ 8 * i
+-- i of n bytes are counted
+pub record Counted (d : List ℕ) (start n : ℕ) (from : Measure) (i : ℕ) (m : Measure) : Type 0 where
+  pub within : i ≤ n
+  pub narrow : m .at ≤ from .at + 8 * i
   pub under : m .at ≤ m .best
-  pub left : measure m (drop i (take len d)) ≡ measure (record { at = 0; best = 0 }) (take len d)
+  pub left : measure m (drop i (part d start n)) ≡ measure from (part d start n)
 
-pub none-counted : (d : List ℕ) (len : ℕ) → Counted d len 0 (record { at = 0; best = 0 })
-none-counted d len = record { within = omega arith; narrow = omega arith; under = omega arith; left = refl }
+pub none-counted : (d : List ℕ) (start n : ℕ) (from : Measure) → from .at ≤ from .best → Counted d start n from 0 from
+none-counted d start n from u = record { within = omega arith; narrow = omega arith; under = u; left = refl }
 
 -- the next k bytes
-next-bytes : (d : List ℕ) (len i k : ℕ) → i + k ≤ len → drop i (take len d) ≡ part d i k ++ drop (i + k) (take len d)
-next-bytes d len i k h =
-    let n : len - i ≡ k + (len - (i + k)) = omega arith in
-    take-part d len i ∙ ap (part d i) n ∙ part-more d i k (len - (i + k)) ∙ ap (λ (v : List ℕ). part d i k ++ v) (sym (take-part d len (i + k)))
+next-bytes : (d : List ℕ) (start n i k : ℕ) → i + k ≤ n → drop i (part d start n) ≡ part d (start + i) k ++ drop (i + k) (part d start n)
+next-bytes d start n i k h =
+    let e : n - i ≡ k + (n - (i + k)) = omega arith in
+    let a : start + (i + k) ≡ start + i + k = omega arith in
+    part-drop d start n i ∙ ap (part d (start + i)) e ∙ part-more d (start + i) k (n - (i + k)) ∙ ap (λ (v : List ℕ). part d (start + i) k ++ v) (sym (rw a at (part-drop d start n (i + k))))
 
-module _ (d : List ℕ) (len i : ℕ) (m : Measure) (h : len ≤ length d) (s : Counted d len i m) where
-  module _ (k : ℕ) (c : i + k ≤ len) (e : Measure) (f : e ≡ measure m (part d i k)) where
+module _ (d : List ℕ) (start n : ℕ) (from : Measure) (i : ℕ) (m : Measure) (h : start + n ≤ length d) (s : Counted d start n from i m) where
+  module _ (k : ℕ) (c : i + k ≤ n) (e : Measure) (f : e ≡ measure m (part d (start + i) k)) where
     grown : Most m e k
     grown =
-        let l = length-part d i k (omega arith) in
-        rw f (rw l at (measure-most m (part d i k)))
+        let l = length-part d (start + i) k (omega arith) in
+        rw f (rw l at (measure-most m (part d (start + i) k)))
 
-    counted-on : Counted d len (i + k) e
+    counted-on : Counted d start n from (i + k) e
     counted-on =
         let g = grown in
         record {
           within = c;
           narrow = omega (arith, g .narrow, s .narrow);
           under = g .under (s .under);
-          left = ap (λ (r : Measure). measure r (drop (i + k) (take len d))) f ∙ sym (measure-both m (part d i k) (drop (i + k) (take len d))) ∙ ap (measure m) (sym (next-bytes d len i k c)) ∙ s .left;
+          left = ap (λ (r : Measure). measure r (drop (i + k) (part d start n))) f ∙ sym (measure-both m (part d (start + i) k) (drop (i + k) (part d start n))) ∙ ap (measure m) (sym (next-bytes d start n i k c)) ∙ s .left;
         }
 
   -- and a run without tabs and line feeds
-  counted-past : (k : ℕ) → i + k ≤ len → has 9 10 (part d i k) ≡ false → (e : Measure) → e ≡ onward m k → Counted d len (i + k) e
-  counted-past k c p e f =
-      let l = length-part d i k (omega arith) in
-      counted-on k c e (f ∙ ap (onward m) (sym l) ∙ sym (measure-plain m (part d i k) (s .under) p))
+  counted-past : (k : ℕ) → i + k ≤ n → has 9 10 (part d (start + i) k) ≡ false → (e : Measure) → e ≡ onward m k → Counted d start n from (i + k) e
+  counted-past k c p e f = counted-on k c e (f ∙ by-plain d (start + i) k m (omega arith) (s .under) p)
+
+  -- the bytes that are left
+  pub by-rest : (r : Measure) → r ≡ measure m (part d (start + i) (n - i)) → r ≡ measure from (part d start n)
+  by-rest r e = e ∙ ap (measure m) (sym (part-drop d start n i)) ∙ s .left
 
 -- a turn: eight bytes, a run, and tabs
-module _ (d : List ℕ) (len i : ℕ) (m e : Measure) (h : len ≤ length d) (s : Counted d len i m) (c : 8 ≤ len - i) (f : e ≡ measure m (part d i 8)) where
-  pub by-eight : Counted d len (i + 8) e
-  by-eight = counted-on d len i m h s 8 (omega arith) e f
+module _ (d : List ℕ) (start n : ℕ) (from : Measure) (i : ℕ) (m e : Measure) (h : start + n ≤ length d) (s : Counted d start n from i m) (c : 8 ≤ n - i) (f : e ≡ measure m (part d (start + i) 8)) where
+  pub by-eight : Counted d start n from (i + 8) e
+  by-eight = counted-on d start n from i m h s 8 (omega arith) e f
 
-  module _ (r : ℕ) (p : Measure) (b : r ≤ len - (i + 8)) (q : has 9 10 (part d (i + 8) r) ≡ false) (g : p ≡ onward e r) where
-    pub by-run : Counted d len (i + 8 + r) p
-    by-run = counted-past d len (i + 8) e h by-eight r (omega arith) q p g
+  module _ (r : ℕ) (p : Measure) (b : r ≤ n - (i + 8)) (q : has 9 10 (part d (start + (i + 8)) r) ≡ false) (g : p ≡ onward e r) where
+    pub by-run : Counted d start n from (i + 8 + r) p
+    by-run = counted-past d start n from (i + 8) e h by-eight r (omega arith) q p g
 
-    pub by-turn : (t : ℕ) (a : Measure) → t ≤ len - (i + 8 + r) → part d (i + 8 + r) t ≡ tabs t → a ≡ measure p (tabs t) → Counted d len (i + 8 + r + t) a
-    by-turn t a l k n = counted-on d len (i + 8 + r) p h by-run t (omega arith) a (n ∙ ap (measure p) (sym k))
+    pub by-turn : (t : ℕ) (a : Measure) → t ≤ n - (i + 8 + r) → part d (start + (i + 8 + r)) t ≡ tabs t → a ≡ measure p (tabs t) → Counted d start n from (i + 8 + r + t) a
+    by-turn t a l k o = counted-on d start n from (i + 8 + r) p h by-run t (omega arith) a (o ∙ ap (measure p) (sym k))
+
+-- ---- a text from its start
+
+pub by-stretch : (d : List ℕ) (len i : ℕ) (m : Measure) (k : ℕ) (e : Measure) → len ≤ length d → Counted d 0 len (record { at = 0; best = 0 }) i m → i + k ≤ len → e ≡ measure m (part d i k)
+    → Counted d 0 len (record { at = 0; best = 0 }) (i + k) e
+by-stretch d len i m k e h s c f =
+    let z : i ≡ 0 + i = omega arith in
+    counted-on d 0 len (record { at = 0; best = 0 }) i m (omega arith) s k c e (f ∙ ap (λ (j : ℕ). measure m (part d j k)) z)
 
 -- ---- the width
 
@@ -201,8 +218,8 @@ measure-width : (m : Measure) (v : List ℕ) → measure m v .best ≡ widthFrom
 measure-width m [] = refl
 measure-width m (x ∷ xs) = measure-width (oneOn m x) xs
 
-pub by-width : (d : List ℕ) (len i : ℕ) (m a : Measure) → Counted d len i m → a ≡ measure m (part d i (len - i)) → a .best ≡ width (take len d)
+pub by-width : (d : List ℕ) (len i : ℕ) (m : Measure) (w : ℕ) → Counted d 0 len (record { at = 0; best = 0 }) i m → w ≡ measure m (part d i (len - i)) .best → w ≡ width (take len d)
 unfolding count
-by-width d len i m a s e =
-    let p : a ≡ measure (count 0 0) (take len d) = e ∙ ap (measure m) (sym (take-part d len i)) ∙ s .left in
-    ap (λ (r : Measure). r .best) p ∙ measure-width (count 0 0) (take len d)
+by-width d len i m w s e =
+    let p : measure m (part d i (len - i)) ≡ measure (count 0 0) (take len d) = ap (measure m) (sym (take-part d len i)) ∙ s .left in
+    e ∙ ap (λ (r : Measure). r .best) p ∙ measure-width (count 0 0) (take len d)

@@ -2,9 +2,10 @@
 use mathlib.Core.Path.{_≡_}
 use mathlib.Core.Bool.{not}
 use mathlib.Core.List.{List, [], _∷_}
-use Prim.Native.Nat.{ℕ, _+_, max}
+use Prim.Native.Nat.{ℕ, suc, _+_, max}
 use lib.Dec.{eqb}
 use lib.ListN.{replicate}
+use Rattle.rules.specs.Base.{if_then_else_}
 use Rattle.rules.specs.Text.{columnAfter, lineFeeds}
 use Rattle.ascii.specs.Part.{has}
 use Rattle.report.specs.declared.Marks.{Marks}
@@ -24,6 +25,11 @@ measure m (x ∷ xs) = measure (oneOn m x) xs
 -- a run of so many bytes, none of them a tab or a line feed
 abbrev pub onward : Measure → ℕ → Measure
 onward m n = record { at = m .at + n; best = max (m .at + n) (m .best) }
+
+-- the column after bytes without a tab: how many stand after the last line feed, or all of them and those before
+abbrev pub since : ℕ → List ℕ → ℕ
+since at [] = at
+since at (x ∷ xs) = since (if eqb x 10 then 0 else suc at) xs
 
 abbrev pub tabs : ℕ → List ℕ
 tabs n = replicate n 9

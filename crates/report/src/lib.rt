@@ -1,22 +1,24 @@
 // The end of a layout: the text is trimmed at both ends, and its lines and width are counted.
 mod longest;
 
+use ascii::find;
 use ascii::in_run;
 use ascii::is_white;
 use text::Text;
 use text::fill;
 use text::trim_all_spaces_end;
 ghost use mathlib.Core.Path.{_≡_};
-ghost use mathlib.Core.Bool.{false};
+ghost use mathlib.Core.Bool.{false, true};
 ghost use Prim.Native.Nat.{_+_, _*_, _^_, _≤_, _<_, max};
 ghost use lib.Dec.{eqb};
-ghost use lib.ListN.{length, take, drop};
+ghost use lib.ListN.{length, take, drop, replicate};
 ghost use Rattle.rules.specs.Base.{if_then_else_, same};
-ghost use Rattle.rules.specs.Text.{isWhite, trimStart, trimmed, change, columnAfter, width, bytesIn};
+ghost use Rattle.rules.specs.Text.{isWhite, trimStart, trimmed, change, columnAfter, bytesIn};
+ghost use Rattle.rules.proofs.Columns.{longestFrom};
 ghost use Rattle.ascii.specs.Part.{part, has};
 ghost use Rattle.text.specs.Put.{put};
 ghost use Rattle.text.specs.Held.{textOf, Held, Laid, bytesOf};
-ghost use Rattle.report.specs.Measured.{Marked, measure, onward, tabs};
+ghost use Rattle.report.specs.Measured.{Marked, measure, onward, tabs, since};
 ghost use Rattle.report.specs.Finished.{sizeOf, finished};
 
 pub struct Size {
@@ -121,20 +123,20 @@ fn marks_in(text: &[u8], start: usize, n: usize) -> Marks
     }
 }
 
-fn all_marks(text: &[u8], len: usize) -> Marks
-    requires { ⌜ len ≤ length (now text) ⌝ }
-    ensures { λ r. ⌜ Marked (take len (now (text .entry))) r × (r .feeds ≤ len) ⌝ }
+fn all_marks(text: &[u8], start: usize, n: usize) -> Marks
+    requires { ⌜ start + n ≤ length (now text) ⌝ }
+    ensures { λ r. ⌜ Marked (part (now (text .entry)) start n) r × (r .feeds ≤ n) ⌝ }
 {
     let mut feeds = 0;
     let mut tab: u8 = 0;
     let mut i = 0;
-    while 192 <= len - i {
-        let m = marks_in(text, i, 192);
+    while 192 <= n - i {
+        let m = marks_in(text, start + i, 192);
         feeds += m.feeds;
         tab |= m.tab;
         i += 192;
     }
-    let m = marks_in(text, i, len - i);
+    let m = marks_in(text, start + i, n - i);
     Marks {
         feeds: feeds + m.feeds,
         tab: tab | m.tab,
@@ -213,14 +215,15 @@ fn passed(m: Measure, run: usize) -> Measure
     }
 }
 
-fn all_tabs(text: &[u8], start: usize, n: usize) -> bool
+// No branch for each byte.
+fn all_are(text: &[u8], start: usize, n: usize, b: u8) -> bool
     requires { ⌜ start + n ≤ length (now text) ⌝ }
-    ensures { λ r. ⌜ r ≡ same (part (now (text .entry)) start n) (tabs n) ⌝ }
+    ensures { λ r. ⌜ r ≡ same (part (now (text .entry)) start n) (replicate n b) ⌝ }
 {
     let mut all: u8 = 0;
     let mut i = 0;
     while i < n {
-        all |= text[start + i] ^ 9;
+        all |= text[start + i] ^ b;
         i += 1;
     }
     all == 0
@@ -236,7 +239,7 @@ fn tab_run(text: &[u8], start: usize, n: usize, goes_on: bool) -> usize
         return i;
     }
     while 16 <= n - i {
-        if !all_tabs(text, start + i, 16) {
+        if !all_are(text, start + i, 16, 9) {
             return i;
         }
         i += 16;
@@ -260,29 +263,90 @@ fn tabbed(m: Measure, run: usize) -> Measure
 
 // Eight columns in eight bytes: the line goes on, and is passed many bytes at a time. For a short line that would be dear. Eight
 // columns for each of the eight: the same with tabs.
-fn by_columns(text: &[u8], len: usize) -> usize
-    requires { ⌜ (len ≤ length (now text)) × (len < 2 ^ 60) ⌝ }
-    ensures { λ r. ⌜ r ≡ width (take len (now (text .entry))) ⌝ }
+fn by_columns(text: &[u8], start: usize, n: usize, from: Measure) -> Measure
+    requires { ⌜ (start + n ≤ length (now text)) × (from .at ≤ from .best) × (from .at + 8 * n < 2 ^ 63) ⌝ }
+    ensures { λ r. ⌜ r ≡ measure from (part (now (text .entry)) start n) ⌝ }
 {
-    let mut m = Measure { at: 0, best: 0 };
+    let mut m = from;
     let mut i = 0;
-    while 8 <= len - i {
-        let eight = measured(text, i, 8, m);
+    while 8 <= n - i {
+        let eight = measured(text, start + i, 8, m);
         i += 8;
-        let run = plain_run(text, i, len - i, eight.at == m.at + 8);
+        let run = plain_run(text, start + i, n - i, eight.at == m.at + 8);
         i += run;
         let past = passed(eight, run);
-        let tabs = tab_run(text, i, len - i, past.at == m.at + 64);
+        let tabs = tab_run(text, start + i, n - i, past.at == m.at + 64);
         i += tabs;
         m = tabbed(past, tabs);
     }
-    let all = measured(text, i, len - i, m);
-    all.best
+    measured(text, start + i, n - i, m)
+}
+
+// ---- without tabs a column is a byte
+
+// The longest line, `at` bytes of the first standing before.
+fn longest_from(text: &[u8], start: usize, n: usize, m: Measure) -> usize
+    requires { ⌜ (start + n ≤ length (now text)) × (m .at + n < 2 ^ 63) ⌝ }
+    ensures { λ r. ⌜ r ≡ longestFrom (m .at) (m .best) (part (now (text .entry)) start n) ⌝ }
+{
+    let at = m.at;
+    if at == 0 {
+        return longest::longest_line(text, start, n, m.best);
+    }
+    let first = find(text, start, n, 10);
+    let best = larger(at + first, m.best);
+    if first == n {
+        return best;
+    }
+    longest::longest_line(text, start + first + 1, n - first - 1, best)
+}
+
+// The column at the end.
+fn column(text: &[u8], start: usize, n: usize, at: usize) -> usize
+    requires { ⌜ (start + n ≤ length (now text)) × (at + n < 2 ^ 63) ⌝ }
+    ensures { λ r. ⌜ r ≡ since at (part (now (text .entry)) start n) ⌝ }
+{
+    let past = longest::past_last(text, start, n);
+    if past == 0 {
+        return at + n;
+    }
+    n - past
 }
 
 // ---- lines and width
 
-// Without tabs the width is the longest line in bytes.
+// A stretch is counted by the cheapest way that its marks allow.
+fn stretch(text: &[u8], start: usize, n: usize, k: Marks, m: Measure) -> Measure
+    requires { ⌜ (start + n ≤ length (now text)) × (m .at ≤ m .best) × (m .at + 8 * n < 2 ^ 63) ⌝ }
+    requires { ⌜ Marked (part (now text) start n) k ⌝ }
+    ensures { λ r. ⌜ r ≡ measure m (part (now (text .entry)) start n) ⌝ }
+{
+    if k.tab != 0 {
+        return by_columns(text, start, n, m);
+    }
+    if k.feeds == 0 {
+        return passed(m, n);
+    }
+    Measure {
+        at: column(text, start, n, m.at),
+        best: longest_from(text, start, n, m),
+    }
+}
+
+// The last one: nobody asks for the column at its end.
+fn last_stretch(text: &[u8], start: usize, n: usize, k: Marks, m: Measure) -> usize
+    requires { ⌜ (start + n ≤ length (now text)) × (m .at ≤ m .best) × (m .at + 8 * n < 2 ^ 63) ⌝ }
+    requires { ⌜ Marked (part (now text) start n) k ⌝ }
+    ensures { λ r. ⌜ r ≡ measure m (part (now (text .entry)) start n) .best ⌝ }
+{
+    if k.tab != 0 {
+        let all = by_columns(text, start, n, m);
+        return all.best;
+    }
+    longest_from(text, start, n, m)
+}
+
+// Stretches are so long that they are read from near memory when they are read again, and that few have a tab where tabs are few.
 pub fn lines_width(text: &[u8], len: usize) -> Size
     requires { ⌜ (len ≤ length (now text)) × (len < 2 ^ 60) ⌝ }
     ensures { λ r. ⌜ r ≡ sizeOf (take len (now (text .entry))) ⌝ }
@@ -290,17 +354,19 @@ pub fn lines_width(text: &[u8], len: usize) -> Size
     if len == 0 {
         return Size { lines: 0, width: 0 };
     }
-    let m = all_marks(text, len);
-    let lines = m.feeds + 1;
-    if m.tab != 0 {
-        return Size {
-            lines,
-            width: by_columns(text, len),
-        };
+    let mut m = Measure { at: 0, best: 0 };
+    let mut lines = 1;
+    let mut i = 0;
+    while 4096 < len - i {
+        let k = all_marks(text, i, 4096);
+        m = stretch(text, i, 4096, k, m);
+        lines += k.feeds;
+        i += 4096;
     }
+    let k = all_marks(text, i, len - i);
     Size {
-        lines,
-        width: longest::longest_line(text, len),
+        lines: lines + k.feeds,
+        width: last_stretch(text, i, len - i, k, m),
     }
 }
 

@@ -1,15 +1,16 @@
 // The longest line in bytes. Where a line of `best` bytes is known, one of at most `best` bytes changes nothing: if a line feed
-// stands among the next best + 1 bytes, all up to it may be passed. There are three ways to pass many bytes at once, each for
+// stands among the next best + 1 bytes, all up to it may be passed. There are four ways to pass many bytes at once, each for
 // texts of another kind; a line that none of them passes is measured.
+use super::all_are;
 use super::larger;
 use ascii::find;
 use ascii::in_run;
 ghost use mathlib.Core.Path.{_≡_};
-ghost use mathlib.Core.Bool.{true};
+ghost use mathlib.Core.Bool.{false, true};
 ghost use Prim.Native.Nat.{_+_, _-_, _^_, _≤_, _<_, min};
 ghost use lib.Dec.{eqb};
-ghost use lib.ListN.{length, take, getD};
-ghost use Rattle.rules.proofs.Columns.{longestLine};
+ghost use lib.ListN.{length, getD, replicate};
+ghost use Rattle.rules.proofs.Columns.{longestFrom};
 ghost use Rattle.ascii.specs.Part.{part, has};
 ghost use Rattle.report.specs.Short.{Passed, InEach};
 
@@ -51,14 +52,11 @@ fn every(text: &[u8], start: usize, far: usize, w: usize) -> bool
     all == 0
 }
 
-// Whether 64 bytes may be passed: a line feed is in each window of best + 1 bytes. For wide windows the other ways are cheaper.
+// Whether 64 bytes may be passed: a line feed is in each window of best + 1 bytes.
 fn are_short(text: &[u8], start: usize, n: usize, best: usize) -> bool
-    requires { ⌜ start + n ≤ length (now text) ⌝ }
+    requires { ⌜ (start + n ≤ length (now text)) × (best < 16) ⌝ }
     ensures { λ r. ⌜ (r ≡ true → Passed (now (text .entry)) start n best 64) ⌝ }
 {
-    if 15 < best {
-        return false;
-    }
     if n < 80 {
         return false;
     }
@@ -72,6 +70,45 @@ fn are_short(text: &[u8], start: usize, n: usize, best: usize) -> bool
         return every(text, start, best - 3, 4);
     }
     every(text, start, best - 7, 8)
+}
+
+// Empty lines. The first eight tell at little cost whether they are worth a look.
+fn feed_run(text: &[u8], start: usize, n: usize) -> usize
+    requires { ⌜ start + n ≤ length (now text) ⌝ }
+    ensures { λ r. ⌜ (r ≤ n) × (part (now (text .entry)) start r ≡ replicate r 10) ⌝ }
+{
+    let mut i = 0;
+    if n < 64 {
+        return i;
+    }
+    if !all_are(text, start, 8, 10) {
+        return i;
+    }
+    while 64 <= n - i {
+        if !all_are(text, start + i, 64, 10) {
+            return i;
+        }
+        i += 64;
+    }
+    i
+}
+
+// For wide windows the other ways are cheaper.
+fn short_lines(text: &[u8], start: usize, n: usize, best: usize) -> usize
+    requires { ⌜ start + n ≤ length (now text) ⌝ }
+    ensures { λ r. ⌜ Passed (now (text .entry)) start n best r ⌝ }
+{
+    if 15 < best {
+        return 0;
+    }
+    let empty = feed_run(text, start, n);
+    if empty != 0 {
+        return empty;
+    }
+    if are_short(text, start, n, best) {
+        return 64;
+    }
+    0
 }
 
 // ---- a line feed far on
@@ -96,9 +133,10 @@ fn hops(text: &[u8], start: usize, n: usize, best: usize) -> usize
 }
 
 // How many bytes there are up to the last line feed, and with it: looked for from the end, it is the farthest.
-fn past_last(text: &[u8], start: usize, n: usize) -> usize
+pub fn past_last(text: &[u8], start: usize, n: usize) -> usize
     requires { ⌜ start + n ≤ length (now text) ⌝ }
     ensures { λ r. ⌜ (r ≤ n) × (0 < r → getD (now (text .entry)) (start + r - 1) 0 ≡ 10) ⌝ }
+    ensures { λ r. ⌜ has 10 10 (part (now (text .entry)) (start + r) (n - r)) ≡ false ⌝ }
 {
     let mut j = n;
     while 16 <= j {
@@ -129,25 +167,26 @@ fn passed_lines(text: &[u8], start: usize, n: usize, best: usize) -> usize
     if run != 0 {
         return run;
     }
-    if are_short(text, start, n, best) {
-        return 64;
+    let short = short_lines(text, start, n, best);
+    if short != 0 {
+        return short;
     }
     past_last(text, start, best + 1)
 }
 
-pub fn longest_line(text: &[u8], len: usize) -> usize
-    requires { ⌜ (len ≤ length (now text)) × (len < 2 ^ 60) ⌝ }
-    ensures { λ r. ⌜ r ≡ longestLine (take len (now (text .entry))) ⌝ }
+pub fn longest_line(text: &[u8], start: usize, n: usize, known: usize) -> usize
+    requires { ⌜ (start + n ≤ length (now text)) × (n < 2 ^ 63) ⌝ }
+    ensures { λ r. ⌜ r ≡ longestFrom 0 known (part (now (text .entry)) start n) ⌝ }
 {
-    let mut best = 0;
+    let mut best = known;
     let mut i = 0;
-    while i < len {
-        let run = passed_lines(text, i, len - i, best);
+    while i < n {
+        let run = passed_lines(text, start + i, n - i, best);
         if run != 0 {
             i += run;
             continue;
         }
-        let line = find(text, i, len - i, 10);
+        let line = find(text, start + i, n - i, 10);
         best = larger(line, best);
         i += line + 1;
     }

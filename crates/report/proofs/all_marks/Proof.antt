@@ -1,24 +1,27 @@
+use Rattle.report.proofs.all_marks.Statement.{statement}
+use Rattle.report.proofs.all_marks.Tie as tie
 use borrow.Author.Needs.{needs}
 use mathlib.Core.Path.{refl}
 use Prim.Native.Nat.{_-_, _≤_}
 use native.Mathlib.Omega.{arith}
-use lib.ListN.{take}
+use Rattle.ascii.specs.Part.{part}
 use Rattle.report.specs.Measured.{Marked}
 use Rattle.report.proofs.MarkLaws.{by-block, by-last-block}
-use Rattle.report.proofs.all_marks.Statement.{statement}
-use Rattle.report.proofs.all_marks.Tie as tie
 
 abbrev Inv-loop : tie.InvT-loop
-Inv-loop text len feeds₀ tab₀ i₀ feeds tab i = (i ≤ len) × (feeds ≤ i) × Marked (take i text) (record { feeds = feeds; tab = tab })
+Inv-loop text start n feeds₀ tab₀ i₀ feeds tab i = (i ≤ n) × (feeds ≤ i) × Marked (part text start i) (record { feeds = feeds; tab = tab })
 
 abbrev μ-loop : tie.MeasureT-loop
-μ-loop text len feeds₀ tab₀ i₀ feeds tab i = len - i
+μ-loop text start n feeds₀ tab₀ i₀ feeds tab i = n - i
 
 loop-holds : tie.Need-loop-holds Inv-loop μ-loop
 loop-holds c = (omega arith, omega arith, record { counted = refl; seen = refl })
 
 sub-loop : tie.Need-sub-loop Inv-loop μ-loop
 sub-loop c = search needs
+
+add-marks-in : tie.Need-add-marks-in Inv-loop μ-loop
+add-marks-in c = search needs
 
 marks-in-requires : tie.Need-marks-in-requires Inv-loop μ-loop
 marks-in-requires c κs = search needs
@@ -35,14 +38,17 @@ loop-less c = search needs
 loop-again : tie.Need-loop-again Inv-loop μ-loop
 loop-again c = search (needs, by-block)
 
+add-marks-in-2 : tie.Need-add-marks-in-2 Inv-loop μ-loop
+add-marks-in-2 c = search needs
+
 sub-marks-in : tie.Need-sub-marks-in Inv-loop μ-loop
 sub-marks-in c = search needs
 
 marks-in-requires-2 : tie.Need-marks-in-requires-2 Inv-loop μ-loop
 marks-in-requires-2 c κs = search needs
 
-add-t10 : tie.Need-add-t10 Inv-loop μ-loop
-add-t10 c = search needs
+add-t11 : tie.Need-add-t11 Inv-loop μ-loop
+add-t11 c = search needs
 
 returns : tie.Need-returns Inv-loop μ-loop
 returns c = search (needs, by-last-block)
@@ -55,12 +61,14 @@ all-marks-spec =
     μ-loop
     loop-holds
     sub-loop
+    add-marks-in
     marks-in-requires
     add-feeds
     add-i
     loop-less
     loop-again
+    add-marks-in-2
     sub-marks-in
     marks-in-requires-2
-    add-t10
+    add-t11
     returns)

@@ -1,12 +1,12 @@
+use Rattle.report.proofs.tab_run.Statement.{statement}
+use Rattle.report.proofs.tab_run.Tie as tie
 use borrow.Author.Needs.{needs}
 use mathlib.Core.Path.{_≡_}
 use Prim.Native.Nat.{_-_, _≤_}
 use borrow.Author.Tests.{not-false}
 use Rattle.ascii.specs.Part.{part}
 use Rattle.report.specs.Measured.{tabs}
-use Rattle.report.proofs.MeasureLaws.{by-more-tabs}
-use Rattle.report.proofs.tab_run.Statement.{statement}
-use Rattle.report.proofs.tab_run.Tie as tie
+use Rattle.report.proofs.MeasureLaws.{by-more-same}
 
 abbrev Inv-loop : tie.InvT-loop
 Inv-loop text start n goes-on i₀ i = (i ≤ n) × (part text start i ≡ tabs i)
@@ -23,11 +23,11 @@ loop-holds c = search needs
 sub-loop : tie.Need-sub-loop Inv-loop μ-loop
 sub-loop c = search needs
 
-add-all-tabs : tie.Need-add-all-tabs Inv-loop μ-loop
-add-all-tabs c = search needs
+add-all-are : tie.Need-add-all-are Inv-loop μ-loop
+add-all-are c = search needs
 
-all-tabs-requires : tie.Need-all-tabs-requires Inv-loop μ-loop
-all-tabs-requires c κs = search needs
+all-are-requires : tie.Need-all-are-requires Inv-loop μ-loop
+all-are-requires c κs = search needs
 
 returns-2 : tie.Need-returns-2 Inv-loop μ-loop
 returns-2 c = search needs
@@ -42,7 +42,7 @@ loop-again : tie.Need-loop-again Inv-loop μ-loop
 loop-again c =
     let l = c .before .before .before .loop in
     let a = c .before .before .before .before .before .before .args in
-    (search needs, by-more-tabs (a .text .now) (a .start) (l .i) 16 _ (c .before .all-tabs .ensures) (not-false (c .before .all-tabs .result) (c .if2 .left)) (l .inv .1))
+    (search needs, by-more-same (a .text .now) (a .start) 9 (l .i) 16 _ (c .before .all-are .ensures) (not-false (c .before .all-are .result) (c .if2 .left)) (l .inv .1))
 
 returns-3 : tie.Need-returns-3 Inv-loop μ-loop
 returns-3 c = search needs
@@ -56,8 +56,8 @@ tab-run-spec =
     returns
     loop-holds
     sub-loop
-    add-all-tabs
-    all-tabs-requires
+    add-all-are
+    all-are-requires
     returns-2
     add-i
     loop-less

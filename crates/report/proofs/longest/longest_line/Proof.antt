@@ -1,20 +1,24 @@
+use Rattle.report.proofs.longest.longest_line.Statement.{statement}
+use Rattle.report.proofs.longest.longest_line.Tie as tie
 use borrow.Author.Needs.{needs}
 use mathlib.Core.Path.{_≡_}
 use Prim.Native.Nat.{_+_, _-_, _≤_}
-use lib.ListN.{take, drop}
-use Rattle.rules.proofs.Columns.{longestFrom, longestLine}
+use lib.ListN.{drop}
+use Rattle.rules.proofs.Columns.{longestFrom}
+use Rattle.ascii.specs.Part.{part}
 use Rattle.report.proofs.LongestLaws.{by-run, by-line, by-end}
-use Rattle.report.proofs.longest.longest_line.Statement.{statement}
-use Rattle.report.proofs.longest.longest_line.Tie as tie
 
 abbrev Inv-loop : tie.InvT-loop
-Inv-loop text len best₀ i₀ best i = (i ≤ len + 1) × (longestFrom 0 best (drop i (take len text)) ≡ longestLine (take len text))
+Inv-loop text start n known best₀ i₀ best i = (i ≤ n + 1) × (longestFrom 0 best (drop i (part text start n)) ≡ longestFrom 0 known (part text start n))
 
 abbrev μ-loop : tie.MeasureT-loop
-μ-loop text len best₀ i₀ best i = len - i
+μ-loop text start n known best₀ i₀ best i = n - i
 
 loop-holds : tie.Need-loop-holds Inv-loop μ-loop
 loop-holds c = search needs
+
+add-passed-lines : tie.Need-add-passed-lines Inv-loop μ-loop
+add-passed-lines c = search needs
 
 sub-passed-lines : tie.Need-sub-passed-lines Inv-loop μ-loop
 sub-passed-lines c = search needs
@@ -30,6 +34,9 @@ loop-less c = search needs
 
 loop-again : tie.Need-loop-again Inv-loop μ-loop
 loop-again c = search (needs, by-run)
+
+add-find : tie.Need-add-find Inv-loop μ-loop
+add-find c = search needs
 
 sub-find : tie.Need-sub-find Inv-loop μ-loop
 sub-find c = search needs
@@ -62,11 +69,13 @@ longest-line-spec =
     Inv-loop
     μ-loop
     loop-holds
+    add-passed-lines
     sub-passed-lines
     passed-lines-requires
     add-i
     loop-less
     loop-again
+    add-find
     sub-find
     find-requires
     larger-requires

@@ -1,7 +1,7 @@
-use Rattle.report.proofs.LongestLaws.{passed-rest, by-last}
 use borrow.Author.Needs.{needs}
 use Rattle.report.proofs.longest.passed_lines.Statement.{statement}
 use Rattle.report.proofs.longest.passed_lines.Tie as tie
+use Rattle.report.proofs.LongestLaws.{passed-rest, by-last}
 
 returns : tie.Need-returns
 returns c = search (needs, passed-rest)
@@ -12,11 +12,11 @@ hops-requires c κs = search needs
 returns-2 : tie.Need-returns-2
 returns-2 c = search needs
 
-are-short-requires : tie.Need-are-short-requires
-are-short-requires c κs = search needs
+short-lines-requires : tie.Need-short-lines-requires
+short-lines-requires c κs = search needs
 
 returns-3 : tie.Need-returns-3
-returns-3 c = c .before .are-short .ensures (c .if3 .taken)
+returns-3 c = search needs
 
 add-past-last : tie.Need-add-past-last
 add-past-last c = search needs
@@ -34,7 +34,7 @@ passed-lines-spec =
     returns
     hops-requires
     returns-2
-    are-short-requires
+    short-lines-requires
     returns-3
     add-past-last
     past-last-requires

@@ -1,22 +1,26 @@
-use borrow.Author.Needs.{needs}
-use Prim.Native.Nat.{_≤_}
 use Rattle.report.proofs.longest.past_last.Statement.{statement}
 use Rattle.report.proofs.longest.past_last.Tie as tie
+use borrow.Author.Needs.{needs}
+use mathlib.Core.Path.{_≡_, sym, _∙_}
+use mathlib.Core.Bool.{false}
+use Prim.Native.Nat.{_+_, _-_, _≤_}
+use Rattle.ascii.specs.Part.{part, has}
+use Rattle.report.proofs.LongestLaws.{none-at-end, none-before, other-byte}
 
 abbrev Inv-loop : tie.InvT-loop
-Inv-loop text start n j₀ j = j ≤ n
+Inv-loop text start n j₀ j = (j ≤ n) × (has 10 10 (part text (start + j) (n - j)) ≡ false)
 
 abbrev μ-loop : tie.MeasureT-loop
 μ-loop text start n j₀ j = j
 
 abbrev Inv-loop2 : tie.InvT-loop2
-Inv-loop2 text start n j₀ j = j ≤ n
+Inv-loop2 text start n j₀ j = (j ≤ n) × (has 10 10 (part text (start + j) (n - j)) ≡ false)
 
 abbrev μ-loop2 : tie.MeasureT-loop2
 μ-loop2 text start n j₀ j = j
 
 loop-holds : tie.Need-loop-holds Inv-loop μ-loop Inv-loop2 μ-loop2
-loop-holds c = search needs
+loop-holds c = search (needs, none-at-end)
 
 add-in-run : tie.Need-add-in-run Inv-loop μ-loop Inv-loop2 μ-loop2
 add-in-run c = search needs
@@ -31,7 +35,10 @@ loop-less : tie.Need-loop-less Inv-loop μ-loop Inv-loop2 μ-loop2
 loop-less c = search needs
 
 loop-again : tie.Need-loop-again Inv-loop μ-loop Inv-loop2 μ-loop2
-loop-again c = search needs
+loop-again c =
+    let l = c .before .before .before .loop in
+    let a = c .before .before .before .before .before .args in
+    (search needs, none-before (a .text .now) (a .start) (a .n) (l .j) 16 (search needs) (l .inv .0) (sym (c .before .in-run .ensures) ∙ c .if1 .left) (l .inv .1))
 
 loop2-holds : tie.Need-loop2-holds Inv-loop μ-loop Inv-loop2 μ-loop2
 loop2-holds c = search needs
@@ -55,7 +62,10 @@ loop2-less : tie.Need-loop2-less Inv-loop μ-loop Inv-loop2 μ-loop2
 loop2-less c = search needs
 
 loop2-again : tie.Need-loop2-again Inv-loop μ-loop Inv-loop2 μ-loop2
-loop2-again c = search needs
+loop2-again c =
+    let l = c .before .before .before .loop2 in
+    let a = c .before .before .before .before .before .before .before .args in
+    (search needs, none-before (a .text .now) (a .start) (a .n) (l .j) 1 (search needs) (l .inv .0) (other-byte (a .text .now) (a .start + l .j - 1) (search needs) (c .if2 .left)) (l .inv .1))
 
 returns-2 : tie.Need-returns-2 Inv-loop μ-loop Inv-loop2 μ-loop2
 returns-2 c = search needs

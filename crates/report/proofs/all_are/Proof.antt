@@ -1,21 +1,20 @@
+use Rattle.report.proofs.all_are.Statement.{statement}
+use Rattle.report.proofs.all_are.Tie as tie
 use borrow.Author.Needs.{needs}
 use mathlib.Core.Path.{_≡_, refl}
 use Prim.Native.Nat.{_-_, _≤_}
 use native.Mathlib.Omega.{arith}
 use lib.Dec.{eqb}
-use lib.ListN.{take}
+use lib.ListN.{take, replicate}
 use Rattle.rules.specs.Base.{same}
 use Rattle.ascii.specs.Part.{part}
-use Rattle.report.specs.Measured.{tabs}
-use Rattle.report.proofs.MeasureLaws.{by-tab, by-tabs}
-use Rattle.report.proofs.all_tabs.Statement.{statement}
-use Rattle.report.proofs.all_tabs.Tie as tie
+use Rattle.report.proofs.MeasureLaws.{by-same, by-all-same}
 
 abbrev Inv-loop : tie.InvT-loop
-Inv-loop text start n all₀ i₀ all i = (i ≤ n) × (eqb all 0 ≡ same (part text start i) (take i (tabs n)))
+Inv-loop text start n b all₀ i₀ all i = (i ≤ n) × (eqb all 0 ≡ same (part text start i) (take i (replicate n b)))
 
 abbrev μ-loop : tie.MeasureT-loop
-μ-loop text start n all₀ i₀ all i = n - i
+μ-loop text start n b all₀ i₀ all i = n - i
 
 loop-holds : tie.Need-loop-holds Inv-loop μ-loop
 loop-holds c = (omega arith, refl)
@@ -33,13 +32,13 @@ loop-less : tie.Need-loop-less Inv-loop μ-loop
 loop-less c = search needs
 
 loop-again : tie.Need-loop-again Inv-loop μ-loop
-loop-again c = search (needs, by-tab)
+loop-again c = search (needs, by-same)
 
 returns : tie.Need-returns Inv-loop μ-loop
-returns c = search (needs, by-tabs)
+returns c = search (needs, by-all-same)
 
-pub all-tabs-spec : {M : Type 1} → statement M
-all-tabs-spec =
+pub all-are-spec : {M : Type 1} → statement M
+all-are-spec =
     tie.close
     (tie.spec
     Inv-loop
