@@ -290,6 +290,10 @@ fn longest_from(text: &[u8], start: usize, n: usize, m: Measure) -> usize
     ensures { λ r. ⌜ r ≡ longestFrom (m .at) (m .best) (part (now (text .entry)) start n) ⌝ }
 {
     let at = m.at;
+    // A line that cannot be the longest is not looked for.
+    if at + n <= m.best {
+        return m.best;
+    }
     if at == 0 {
         return longest::longest_line(text, start, n, m.best);
     }
@@ -357,11 +361,11 @@ pub fn lines_width(text: &[u8], len: usize) -> Size
     let mut m = Measure { at: 0, best: 0 };
     let mut lines = 1;
     let mut i = 0;
-    while 4096 < len - i {
-        let k = all_marks(text, i, 4096);
-        m = stretch(text, i, 4096, k, m);
+    while 4032 < len - i {
+        let k = all_marks(text, i, 4032);
+        m = stretch(text, i, 4032, k, m);
         lines += k.feeds;
-        i += 4096;
+        i += 4032;
     }
     let k = all_marks(text, i, len - i);
     Size {
