@@ -144,7 +144,7 @@ fn last_stretch(text: &[u8], start: usize, n: usize, k: Marks, m: Measure) -> us
     longest_from(text, start, n, m)
 }
 
-// Stretches are so long that they are read from near memory when they are read again, and that few have a tab where tabs are few.
+// A stretch, 21 blocks of marks, is so short that it is still near when it is read again, and that few have a tab where tabs are few.
 pub fn lines_width(text: &[u8], len: usize) -> Size
     requires { ⌜ (len ≤ length (now text)) × (len < 2 ^ 60) ⌝ }
     ensures { λ r. ⌜ r ≡ sizeOf (take len (now (text .entry))) ⌝ }
