@@ -1,6 +1,6 @@
 //! Values of many lines: short ones, with one about as long as the longest here and there, and runs of
-//! tabs. The call passes what cannot be the longest line many bytes at a time, in stretches of 16, 64
-//! and 192 bytes.
+//! tabs. The call passes what cannot be the longest line many bytes at a time, in stretches of 16, 64,
+//! 192 and 4,032 bytes.
 
 use super::Dice;
 use crate::sheet::*;
@@ -8,6 +8,7 @@ use crate::sheet::*;
 /// Lengths about which the call goes another way.
 const MOST: [usize; 16] = [0, 1, 1, 2, 3, 3, 4, 6, 7, 8, 9, 15, 16, 17, 30, 70];
 const SIZES: [usize; 8] = [20, 60, 75, 80, 140, 200, 400, 600];
+const LONG: usize = 4100;
 
 fn line(dice: &mut Dice, length: usize) -> Vec<u8> {
     let other = dice.pick(b"xxxx \r\t");
@@ -16,7 +17,8 @@ fn line(dice: &mut Dice, length: usize) -> Vec<u8> {
 
 /// All of one length, or of any up to it, and some a little longer.
 fn lines(dice: &mut Dice) -> Vec<u8> {
-    let (most, size, steady) = (dice.pick(&MOST), dice.pick(&SIZES), dice.one_in(2));
+    let (most, steady) = (dice.pick(&MOST), dice.one_in(2));
+    let size = if dice.one_in(40) { LONG } else { dice.pick(&SIZES) };
     let mut value = Vec::new();
     while value.len() < size {
         let length = if steady { most } else { dice.below(most + 1) };

@@ -1,14 +1,14 @@
 -- Laws of a stretch without tabs: its columns are bytes. Assumes nothing.
 use mathlib.Core.Path.{_≡_, refl, sym, ap, _∙_}
-use mathlib.Core.Bool.{Bool, true, false}
+use mathlib.Core.Bool.{Bool, true, false, _||_}
 use mathlib.Core.List.{List, [], _∷_, _++_}
-use Prim.Native.Nat.{ℕ, zero, suc, _+_, _-_, _≤_, _<_, max}
+use Prim.Native.Nat.{ℕ, zero, suc, _+_, _-_, _≤_, max}
 use native.Mathlib.Omega.{arith}
 use lib.Dec.{eqb}
 use lib.ListN.{length, take, drop, getD}
 use borrow.Author.Tests.{eq-eqb}
 use Rattle.rules.specs.Base.{if_then_else_}
-use Rattle.rules.specs.Text.{widthFrom, width}
+use Rattle.rules.specs.Text.{lineFeeds, widthFrom, width}
 use Rattle.rules.proofs.Columns.{longestFrom}
 use Rattle.ascii.specs.Part.{part, has, before}
 use Rattle.ascii.proofs.PartLaws.{length-part, part-cons, part-more, part-drop, part-end}
@@ -18,6 +18,7 @@ use Rattle.lines.specs.Marked.{Marked, since}
 use Rattle.columns.specs.Measured.{oneOn, measure}
 use Rattle.columns.proofs.MeasureLaws.{Counted, counted-on, by-rest}
 use Rattle.lines.proofs.MarkLaws.{no-tab}
+use Rattle.longest.specs.Short.{Last}
 use Rattle.longest.proofs.LongestLaws.{rest, exact}
 
 -- ---- the column at the end
@@ -34,23 +35,29 @@ since-last : (v w : List ℕ) (x at : ℕ) → x ≡ 10 → has 10 10 w ≡ fals
 since-last [] w x at e h = let z : length w ≡ 0 + length w = omega arith in z ∙ since-none w 0 h ∙ ap (λ (b : Bool). since (if b then 0 else suc at) w) (sym (eq-eqb x 10 e))
 since-last (y ∷ ys) w x at e h = since-last ys w x (if eqb y 10 then 0 else suc at) e h
 
-module _ (d : List ℕ) (start n at : ℕ) (h : start + n ≤ length d) where
-  pub by-no-feed : (r : ℕ) → r ≡ 0 → has 10 10 (part d (start + r) (n - r)) ≡ false → at + n ≡ since at (part d start n)
-  by-no-feed r z f =
+some-feed : (v : List ℕ) → has 10 10 v ≡ false → lineFeeds v ≡ 0
+some-feed [] h = refl
+some-feed (x ∷ xs) h = go (eqb x 10) (some-feed xs) h
+  where
+    go : (b : Bool) → (has 10 10 xs ≡ false → lineFeeds xs ≡ 0) → ((b || b) || has 10 10 xs) ≡ false → (if b then suc (lineFeeds xs) else lineFeeds xs) ≡ 0
+    go true f h = absurd (let y : _≡_ {A = ℕ} 0 1 = cc in omega arith)
+    go false f h = f h
+
+-- where a line feed stands the column is what follows the last one
+module _ (d : List ℕ) (start n at : ℕ) (h : start + n ≤ length d) (k : Marks) (w : Marked (part d start n) k) (z : k .feeds ≡ 0 → ⊥) where
+  pub by-past : (r : ℕ) → Last d start n r → n - r ≡ since at (part d start n)
+  by-past zero l =
+      let f = l .none in
       let a : start + 0 ≡ start = omega arith in
       let b : n - 0 ≡ n = omega arith in
-      let g : has 10 10 (part d start n) ≡ false = rw (a, b) at (rw z at f) in
-      let l = length-part d start n h in
-      let k : at + n ≡ at + length (part d start n) = omega arith in
-      k ∙ since-none (part d start n) at g
-
-  pub by-past : (r : ℕ) → (r ≡ 0 → ⊥) → r ≤ n → (0 < r → getD d (start + r - 1) 0 ≡ 10) → has 10 10 (part d (start + r) (n - r)) ≡ false → n - r ≡ since at (part d start n)
-  by-past zero z c e f = absurd (z refl)
-  by-past (suc p) z c e f =
+      absurd (z (w .counted ∙ some-feed (part d start n) (rw (a, b) at f)))
+  by-past (suc p) t =
+      let c = t .within in
+      let f = t .none in
       let a : n ≡ p + suc (n - suc p) = omega arith in
       let b : start + suc p - 1 ≡ start + p = omega arith in
       let g : start + p + 1 ≡ start + suc p = omega arith in
-      let y : getD d (start + p) 0 ≡ 10 = rw b at (e (omega arith)) in
+      let y : getD d (start + p) 0 ≡ 10 = rw b at (t .fed (omega arith)) in
       let o : part d (start + p) (suc (n - suc p)) ≡ getD d (start + p) 0 ∷ part d (start + suc p) (n - suc p) = rw g at (part-cons d (start + p) (n - suc p) (omega arith)) in
       let v : part d start n ≡ part d start p ++ (getD d (start + p) 0 ∷ part d (start + suc p) (n - suc p)) =
       ap (part d start) a ∙ part-more d start p (suc (n - suc p)) ∙ ap (λ (l : List ℕ). part d start p ++ l) o in

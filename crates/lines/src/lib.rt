@@ -14,7 +14,7 @@ ghost use Rattle.rules.specs.Base.{if_then_else_};
 ghost use Rattle.rules.proofs.Columns.{longestFrom};
 ghost use Rattle.ascii.specs.Part.{part};
 ghost use Rattle.columns.specs.Measured.{measure};
-ghost use Rattle.lines.specs.Marked.{Marked, since, sizeOf};
+ghost use Rattle.lines.specs.Marked.{Marked, sizeOf};
 
 pub struct Size {
     pub lines: usize,
@@ -99,18 +99,6 @@ fn longest_from(text: &[u8], start: usize, n: usize, m: Measure) -> usize
     longest_line(text, start + first + 1, n - first - 1, best)
 }
 
-// The column at the end.
-fn column(text: &[u8], start: usize, n: usize, at: usize) -> usize
-    requires { ⌜ (start + n ≤ length (now text)) × (at + n < 2 ^ 63) ⌝ }
-    ensures { λ r. ⌜ r ≡ since at (part (now (text .entry)) start n) ⌝ }
-{
-    let past = past_last(text, start, n);
-    if past == 0 {
-        return at + n;
-    }
-    n - past
-}
-
 // ---- lines and width
 
 // A stretch is counted by the cheapest way that its marks allow.
@@ -125,8 +113,9 @@ fn stretch(text: &[u8], start: usize, n: usize, k: Marks, m: Measure) -> Measure
     if k.feeds == 0 {
         return passed(m, n);
     }
+    let at = n - past_last(text, start, n);
     Measure {
-        at: column(text, start, n, m.at),
+        at,
         best: longest_from(text, start, n, m),
     }
 }

@@ -15,7 +15,7 @@ use Rattle.rules.proofs.Columns.{longestFrom}
 use Rattle.ascii.specs.Part.{part, has, before}
 use Rattle.ascii.proofs.PartLaws.{length-part, part-cons, part-suc, part-drop, part-end, part-more}
 use Rattle.ascii.proofs.FindLaws.{has-both}
-use Rattle.longest.specs.Short.{Passed, InEach}
+use Rattle.longest.specs.Short.{Passed, InEach, Last}
 
 -- `|` is 0 exactly where both are
 pub or-zero : (s t : ℕ) → eqb (bitOr s t) 0 ≡ (eqb s 0 && eqb t 0)
@@ -176,12 +176,13 @@ module _ (d : List ℕ) (start n best : ℕ) (h : start + n ≤ length d) where
       jump-at i best (omega arith) (omega arith) (rw a at z) s
 
   -- a line feed that ends r bytes
-  pub by-last : (r : ℕ) → best < n → r ≤ best + 1 → (0 < r → getD d (start + r - 1) 0 ≡ 10) → Passed d start n best r
-  by-last zero c g z = passed-none d start n best
-  by-last (suc p) c g z =
+  pub by-last : (r : ℕ) → best < n → Last d start (best + 1) r → Passed d start n best r
+  by-last zero c l = passed-none d start n best
+  by-last (suc p) c l =
+      let g = l .within in
       let a : start + suc p - 1 ≡ start + (0 + p) = omega arith in
       let b : 0 + (p + 1) ≡ suc p = omega arith in
-      rw b at (jump-at 0 p (omega arith) (omega arith) (rw a at (z (omega arith))) (passed-none d start n best))
+      rw b at (jump-at 0 p (omega arith) (omega arith) (rw a at (l .fed (omega arith))) (passed-none d start n best))
 
   -- a line feed in each window
   by-each : (w k : ℕ) → w ≤ best + 1 → k + w ≤ n → InEach d start w k → longestFrom 0 best (drop k (part d start n)) ≡ longestFrom 0 best (part d start n)

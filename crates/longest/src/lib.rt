@@ -4,14 +4,14 @@
 use ascii::find;
 use ascii::in_run;
 ghost use mathlib.Core.Path.{_≡_};
-ghost use mathlib.Core.Bool.{false, true};
-ghost use Prim.Native.Nat.{_+_, _-_, _^_, _≤_, _<_, min, max};
+ghost use mathlib.Core.Bool.{true};
+ghost use Prim.Native.Nat.{_+_, _^_, _≤_, _<_, min, max};
 ghost use lib.Dec.{eqb};
-ghost use lib.ListN.{length, getD, replicate};
+ghost use lib.ListN.{length, replicate};
 ghost use Rattle.rules.specs.Base.{same};
 ghost use Rattle.rules.proofs.Columns.{longestFrom};
 ghost use Rattle.ascii.specs.Part.{part, has};
-ghost use Rattle.longest.specs.Short.{Passed, InEach};
+ghost use Rattle.longest.specs.Short.{Passed, InEach, Last};
 
 pub fn larger(a: usize, b: usize) -> usize
     ensures { λ r. ⌜ r ≡ max a b ⌝ }
@@ -154,8 +154,7 @@ fn hops(text: &[u8], start: usize, n: usize, best: usize) -> usize
 // How many bytes there are up to the last line feed, and with it: looked for from the end, it is the farthest.
 pub fn past_last(text: &[u8], start: usize, n: usize) -> usize
     requires { ⌜ start + n ≤ length (now text) ⌝ }
-    ensures { λ r. ⌜ (r ≤ n) × (0 < r → getD (now (text .entry)) (start + r - 1) 0 ≡ 10) ⌝ }
-    ensures { λ r. ⌜ has 10 10 (part (now (text .entry)) (start + r) (n - r)) ≡ false ⌝ }
+    ensures { λ r. ⌜ Last (now (text .entry)) start n r ⌝ }
 {
     let mut j = n;
     while 16 <= j {

@@ -4,6 +4,7 @@ use borrow.Author.Needs.{needs}
 use mathlib.Core.Path.{_≡_, sym, _∙_}
 use mathlib.Core.Bool.{false}
 use Prim.Native.Nat.{_+_, _-_, _≤_}
+use native.Mathlib.Omega.{arith}
 use Rattle.ascii.specs.Part.{part, has}
 use Rattle.longest.proofs.LongestLaws.{none-at-end, none-before, other-byte}
 
@@ -53,7 +54,9 @@ shared-slice-read-if2 : tie.Need-shared-slice-read-if2 Inv-loop μ-loop Inv-loop
 shared-slice-read-if2 c = search needs
 
 returns : tie.Need-returns Inv-loop μ-loop Inv-loop2 μ-loop2
-returns c = search needs
+returns c =
+    let l = c .before .before .before .loop2 in
+    record { within = l .inv .0; fed = λ _. c .if2 .taken; none = l .inv .1 }
 
 sub-j : tie.Need-sub-j Inv-loop μ-loop Inv-loop2 μ-loop2
 sub-j c = search needs
@@ -68,7 +71,9 @@ loop2-again c =
     (search needs, none-before (a .text .now) (a .start) (a .n) (l .j) 1 (search needs) (l .inv .0) (other-byte (a .text .now) (a .start + l .j - 1) (search needs) (c .if2 .left)) (l .inv .1))
 
 returns-2 : tie.Need-returns-2 Inv-loop μ-loop Inv-loop2 μ-loop2
-returns-2 c = search needs
+returns-2 c =
+    let l = c .before .loop2 in
+    record { within = l .inv .0; fed = λ h. absurd (omega arith); none = l .inv .1 }
 
 pub past-last-spec : {M : Type 1} → statement M
 past-last-spec =
