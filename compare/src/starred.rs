@@ -10,6 +10,7 @@ mod lines;
 mod mend;
 mod room;
 mod rows;
+mod words;
 
 use crate::check::{columns, measured};
 use crate::converted::WITHDRAWN;
@@ -392,6 +393,7 @@ pub fn run() -> bool {
     let further = count(further_parts().into_iter().flatten().collect(), "further sheets");
     let comments = count(comment_sheets(), "line comments at word 7 = 0, 1, 2");
     let tabs = count(tab_sheets(), "tabs") && count(lines::sheets(), "many lines");
+    let words = count(words::sheets(), "words of blocks");
     let rows = rows::run();
     let compacted = compact::run();
     let room = room::run();
@@ -399,7 +401,7 @@ pub fn run() -> bool {
     let converted = convert::run();
     let judged = judge::run();
     let later = rows && compacted && room && mended && converted && judged;
-    sheets && further && comments && tabs && later && head()
+    sheets && further && comments && tabs && words && later && head()
 }
 
 /// The two heads of the library, where it is linked.

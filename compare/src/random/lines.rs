@@ -1,6 +1,6 @@
 //! Values of many lines: short ones, with one about as long as the longest here and there, and runs of
-//! tabs. The call passes what cannot be the longest line many bytes at a time, in stretches of 16, 64
-//! and 192 bytes.
+//! tabs. The call passes what cannot be the longest line many bytes at a time, in stretches of 16, 64,
+//! 192 and 4,032 bytes.
 
 use super::Dice;
 use crate::sheet::*;
@@ -8,15 +8,23 @@ use crate::sheet::*;
 /// Lengths about which the call goes another way.
 const MOST: [usize; 16] = [0, 1, 1, 2, 3, 3, 4, 6, 7, 8, 9, 15, 16, 17, 30, 70];
 const SIZES: [usize; 8] = [20, 60, 75, 80, 140, 200, 400, 600];
+/// More than a stretch, where the sheet has room for it.
+const LONG: usize = 4100;
+const FEW: usize = 16_000;
 
 fn line(dice: &mut Dice, length: usize) -> Vec<u8> {
     let other = dice.pick(b"xxxx \r\t");
     (0..length).map(|at| if at + 2 == length { other } else { b'x' }).collect()
 }
 
-/// All of one length, or of any up to it, and some a little longer.
 fn lines(dice: &mut Dice) -> Vec<u8> {
-    let (most, size, steady) = (dice.pick(&MOST), dice.pick(&SIZES), dice.one_in(2));
+    let size = dice.pick(&SIZES);
+    lines_of(dice, size)
+}
+
+/// All of one length, or of any up to it, and some a little longer.
+fn lines_of(dice: &mut Dice, size: usize) -> Vec<u8> {
+    let (most, steady) = (dice.pick(&MOST), dice.one_in(2));
     let mut value = Vec::new();
     while value.len() < size {
         let length = if steady { most } else { dice.below(most + 1) };
@@ -60,6 +68,13 @@ pub fn lined(dice: &mut Dice, mut sheet: Sheet) -> Sheet {
     }
     for param in &mut sheet.params {
         long(dice, &mut param.value);
+    }
+    let values = sheet.tokens.iter().map(|token| token.value.len());
+    let entries = sheet.params.iter().map(|param| param.name.len() + param.value.len());
+    let taken = values.chain(entries).sum::<usize>();
+    if taken < FEW && !sheet.tokens.is_empty() && dice.one_in(10) {
+        let at = dice.below(sheet.tokens.len());
+        sheet.tokens[at].value.extend(lines_of(dice, LONG));
     }
     sheet
 }

@@ -1,5 +1,6 @@
 //! Sound sheets that a hostile host would make: each has the call do as much as it can of one thing.
 
+use crate::random::Dice;
 use crate::sheet::*;
 
 /// The longest value of which there are two at different places.
@@ -92,6 +93,16 @@ fn at_depth(options: Options, depth: usize, turn: &[[u32; 5]], text: &str, fill:
     costly.tokens.splice(0..0, vec![open; depth]);
     costly.tokens.extend(vec![close; depth]);
     costly
+}
+
+/// Lines of any length up to `most`, in no order.
+fn any_lines(dice: &mut Dice, most: usize) -> Vec<u8> {
+    let mut body = Vec::new();
+    while body.len() < LONG as usize {
+        body.resize(body.len() + dice.below(most + 1), b'a');
+        body.push(b'\n');
+    }
+    body
 }
 
 pub fn sheets() -> Vec<(String, Costly)> {
@@ -195,11 +206,26 @@ pub fn sheets() -> Vec<(String, Costly)> {
         .push(("lines of five bytes".into(), filled(&|at| if at % 6 < 5 { b'a' } else { b'\n' })));
     let ends = |at: usize| at.wrapping_mul(2_654_435_761) >> 7 & 15 == 0;
     sheets
-        .push(("lines of mixed length".into(), filled(&|at| if ends(at) { b'\n' } else { b'a' })));
+        .push(("lines of 4, 13 and 18".into(), filled(&|at| if ends(at) { b'\n' } else { b'a' })));
+    let mut dice = Dice::new(1, 0);
+    for most in [2, 12, 30, 100, 300] {
+        let any = any_lines(&mut dice, most);
+        sheets.push((format!("lines of up to {most}"), filled(&|at| any[at])));
+    }
     sheets.push(("tabs after words".into(), filled(&|_| b'\t')));
     sheets.push((
         "tabs and letters in turn".into(),
         filled(&|at| if at % 2 == 0 { b'\t' } else { b'a' }),
+    ));
+    sheets.push((
+        "a tab and nine letters".into(),
+        filled(&|at| if at % 10 == 0 { b'\t' } else { b'a' }),
+    ));
+    let any: Vec<u8> = (0..LONG).map(|_| dice.pick(b"\taaaa\n")).collect();
+    sheets.push(("tabs, letters and line feeds".into(), filled(&|at| any[at])));
+    sheets.push((
+        "line feeds and a few tabs".into(),
+        filled(&|at| if at % 8000 == 0 { b'\t' } else { b'\n' }),
     ));
     let lines = Costly {
         body: b"\n x".iter().copied().cycle().take(LONG as usize).collect(),

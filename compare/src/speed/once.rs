@@ -15,12 +15,13 @@ const SIZES: [usize; 3] = [128, 512, 1024];
 
 type Shape = fn(&mut Dice, usize) -> Sheet;
 
-const SHAPES: [(&str, Shape); 8] = [
+const SHAPES: [(&str, Shape); 9] = [
     ("realistic", |dice, size| of(sized::usual(dice, size), 50)),
     ("40 deep", |_, size| of(nested(40, size, &[WORD_A, COMMA, SELECT, WORD_A]), 0)),
     ("120 deep", |_, size| of(nested(120, size, &[WORD_A, COMMA, SELECT, WORD_A]), 0)),
     ("top-level words, 40 deep", |_, size| of(nested(40, size, &[SELECT]), 0)),
-    ("top-level words, 120 deep", |_, size| of(nested(120, size, &[SELECT]), 0)),
+    ("top-level words, 120 deep", |_, size| of(groups(size), 0)),
+    ("one nest of 120", |_, size| of(nested(120, size, &[SELECT]), 0)),
     ("unmatched brackets", |_, size| of(unmatched(size), 0)),
     ("switched off", |_, size| of(switched_off(size), 0)),
     ("longest inline block", |_, size| of(nested(40, size, &[WORD_A, COMMA]), u32::MAX)),
@@ -47,6 +48,16 @@ fn nested(depth: usize, size: usize, turn: &[Piece]) -> Vec<Token> {
     let inside = turn.iter().copied().cycle().take(size - depth - close);
     let open = [(OPEN, "(")].into_iter().cycle().take(depth);
     tokens(open.chain(inside).chain([(CLOSE, ")")].into_iter().cycle().take(close)))
+}
+
+/// 120 brackets, sixteen top-level words inside them, and the closing ones, again and again: of 128 tokens the first half of it, so that
+/// each size has the same share of words.
+fn groups(size: usize) -> Vec<Token> {
+    tokens((0..size).map(|i| match i % 256 {
+        0..120 => (OPEN, "("),
+        120..136 => SELECT,
+        _ => (CLOSE, ")"),
+    }))
 }
 
 /// Closing brackets that close nothing, then fourteen that are never closed, eight tokens apart.

@@ -1,5 +1,6 @@
 //! Texts of many lines, and of many tabs, whose lines and width are known. The call passes what cannot be the longest
-//! line many bytes at a time: here the longest stands where such a stretch begins or ends.
+//! line many bytes at a time, and counts 4,032 bytes by columns only where a tab is among them: here the longest line,
+//! or a tab, stands where such a stretch begins or ends.
 
 use super::{Case, ROOM, of};
 use crate::model::Answer;
@@ -32,6 +33,40 @@ fn after_tabs(letters: usize, n: usize, width: usize) -> Case {
     at("a run of tabs", "x".repeat(letters) + &"\t".repeat(n) + "y", 1, width)
 }
 
+/// Short lines up to byte 4,002, and so many letters, which go on in the next stretch.
+fn into_the_next(letters: usize, rest: &str, lines: usize, width: usize) -> Case {
+    let value = "ab\n".repeat(1334) + &"y".repeat(letters) + rest;
+    at("a line in two stretches", value, 1334 + lines, width)
+}
+
+/// The longest line, or the last but one, ends about where a stretch does.
+fn about_the_end(first: usize) -> [Case; 3] {
+    let line = |byte: &str, n: usize| byte.repeat(n) + "\n";
+    [
+        at("a line of a stretch", line("x", first) + "y", 2, first),
+        at("a longer one after it", line("x", first) + &line("y", first + 1) + "z", 3, first + 1),
+        at("and a tab", line("x", first) + &line("\ty", 1) + &"z".repeat(first - 1), 3, first),
+    ]
+}
+
+fn stretches() -> Vec<Case> {
+    let mut cases = vec![
+        into_the_next(100, "\nz", 2, 100),
+        into_the_next(30, "\nz", 2, 30),
+        into_the_next(10, "\tyyy\nz", 2, 19),
+        into_the_next(60, "\ty\nz", 2, 65),
+        into_the_next(60, &("\n".to_owned() + &"z".repeat(59) + "\ta"), 2, 65),
+        into_the_next(31, &("\n".to_owned() + &"z".repeat(40)), 2, 40),
+        into_the_next(0, &("\t\n".to_owned() + &"z".repeat(8000)), 2, 8000),
+        at("a line in three stretches", "y".repeat(9000) + "\n" + &"z".repeat(8999), 2, 9000),
+        at("the same after a tab", "x\t".to_owned() + &"y".repeat(9000) + "\nz", 2, 9008),
+        at("one that ends with a tab", "x".to_owned() + &"y".repeat(9000) + "\tz", 1, 9009),
+        at("no line feed but the last", "y".repeat(8064) + "\nz", 2, 8064),
+    ];
+    cases.extend((4029..=4034).chain(8062..=8066).flat_map(about_the_end));
+    cases
+}
+
 pub fn sheets() -> Vec<Case> {
     let mut cases = vec![
         at("line feeds alone", "a".to_owned() + &feeds(100) + "b", 101, 1),
@@ -62,5 +97,6 @@ pub fn sheets() -> Vec<Case> {
     cases.extend(lengths().flat_map(|n| [20, 64, 70].map(|feeds| after_feeds(n, feeds, n + 1))));
     cases.extend(lengths().flat_map(|n| [3, 8, 20].map(|count| after_lines(n, count, n + 1))));
     cases.extend([31, 32, 33, 63, 64, 65].map(|n| after_lines(n, 3, n + 1)));
+    cases.extend(stretches());
     cases
 }

@@ -10,9 +10,10 @@ use Rattle.rules.specs.Text.{trimEnd, Text, fits, refused, isWhite, trimStart, 
 use Rattle.text.specs.declared.Text.{Text as Code}
 use Rattle.text.specs.Held.{textOf, codeOf, bytesOf, Held, Laid}
 use Rattle.text.proofs.HeldLaws.{zero-or, text-fits, text-refused, relaid, onward}
-use Rattle.report.specs.declared.Size.{Size}
+use Rattle.lines.specs.declared.Size.{Size}
 use Rattle.report.specs.declared.Finished.{Finished}
-use Rattle.report.specs.Finished.{sizeOf, finished}
+use Rattle.lines.specs.Marked.{sizeOf}
+use Rattle.report.specs.Finished.{finished}
 
 done : ℕ → ℕ → ℕ → List ℕ → Finished
 done f m n v = record { fault = f; end = m; len = n; lines = lines v; width = width v }

@@ -1,3 +1,1 @@
-pub mod Measured
-pub mod Short
 pub mod Finished

@@ -22,7 +22,7 @@ use Rattle.rules.specs.Switch.{Switch, turnOf, switchAfter, switchedOn}
 use Rattle.rules.specs.Rows.{laysOut}
 use Rattle.tokens.specs.Placed.{Within}
 use Rattle.records.specs.Sheeted.{Sheeted}
-use Rattle.switched.specs.Count.{when-most, countFrom, count-turn, count-end}
+use Rattle.switched.specs.Count.{when-most, countFrom, count-turn, count-end, mostFrom, most-turn, most-end}
 
 -- ---- a token
 
@@ -92,3 +92,26 @@ module _ (s : List ℕ) (base n count i : ℕ) (w : Switch) (c : Counting s base
 
   pub count-done : (k : Counts) → n ≤ i → base ≡ bodyAt k → n ≡ k .tokens → count ≡ countFrom s (bodyAt k) (k .tokens) 0 0 switchedOn
   count-done k l eb en = rw (← eb, ← en) (sym (count-end s base n count i w l) ∙ c .left)
+
+-- the same of all placeholders: the switch has no part in it, nor where the values lie
+pub record CountingAll (s : List ℕ) (n count i : ℕ) : Type 0 where
+  pub few : count ≤ i
+  pub within : i ≤ n
+  pub left : (base : ℕ) → mostFrom s base n count i ≡ mostFrom s base n 0 0
+
+pub all-begins : (s : List ℕ) (n : ℕ) → CountingAll s n 0 0
+all-begins s n = record { few = omega arith; within = omega arith; left = λ base. refl }
+
+module _ (s : List ℕ) (n count i : ℕ) (c : CountingAll s n count i) where
+  pub all-on : i < n → (k : TokenKind) → k ≡ tokenAt s i .kind → (b : Bool) → b ≡ is k kind.Placeholder → (m : ℕ) → m ≡ when b suc count → CountingAll s n m (i + 1)
+  all-on l k hk b hb m hm =
+      let f = c .few in
+      let g = when-most b count in
+      record {
+        few = omega arith;
+        within = omega arith;
+        left = λ base. rw (hm, hb, hk) (sym (most-turn s base n count i l) ∙ c .left base);
+      }
+
+  pub all-done : (base : ℕ) → n ≤ i → count ≡ mostFrom s base n 0 0
+  all-done base l = sym (most-end s base n count i l) ∙ c .left base

@@ -1,4 +1,4 @@
-// Wish 2: which tokens have a row, and how many of a sheet do: the fmt switch alone decides.
+// Wish 2: which tokens have a row, and how many of a sheet do: the fmt switch alone decides. And how many do at most.
 ghost use mathlib.Core.Path.{_≡_};
 ghost use Prim.Native.Nat.{suc, _<_};
 ghost use Rattle.rules.specs.declared.TokenKind.the-variants.{Placeholder};
@@ -10,6 +10,7 @@ ghost use Rattle.rules.specs.Rows.{laysOut, placeholders as placeholdersOf};
 ghost use Rattle.tokens.specs.Placed.{Within};
 ghost use Rattle.records.specs.Sheeted.{Sheeted};
 ghost use Rattle.fmt_switch.specs.Of.{switchOf};
+ghost use Rattle.switched.specs.Count.{mostPlaceholders};
 use fmt_switch::Switch;
 use records::body_at;
 use rules::Counts;
@@ -50,7 +51,8 @@ pub fn turn_at(sheet: &[u8], base: usize, i: usize, switch: Switch, kind: TokenK
     switch.turn_of(kind, sheet, base + to_usize(v.start), to_usize(v.len))
 }
 
-fn counted(count: usize, b: bool) -> usize
+// A count is a word, not a usize: the compiler then counts more placeholders at once.
+fn counted(count: u32, b: bool) -> u32
     requires { ⌜ count < 1024 ⌝ }
     ensures { λ r. ⌜ r ≡ when b suc count ⌝ }
 {
@@ -67,7 +69,7 @@ pub fn placeholders(sheet: &[u8], c: Counts) -> usize
 {
     let base = body_at(c);
     let n = c.tokens;
-    let mut count: usize = 0;
+    let mut count: u32 = 0;
     let mut switch = Switch::new();
     let mut i: usize = 0;
     while i < n {
@@ -77,5 +79,21 @@ pub fn placeholders(sheet: &[u8], c: Counts) -> usize
         switch = switch.after(turn);
         i += 1;
     }
-    count
+    to_usize(count)
+}
+
+// How many placeholders there are, switched off or not. No fewer than have rows, and known
+// sooner: a token is a load, a mask, a compare and an add, and no branch.
+pub fn most_placeholders(sheet: &[u8], c: Counts) -> usize
+    requires { ⌜ Sheeted (now sheet) c ⌝ }
+    ensures { λ r. ⌜ r ≡ mostPlaceholders (tokensOf (now (sheet .entry)) c) ⌝ }
+{
+    let n = c.tokens;
+    let mut count: u32 = 0;
+    let mut i: usize = 0;
+    while i < n {
+        count = counted(count, is_placeholder(kind_at(sheet, i)));
+        i += 1;
+    }
+    to_usize(count)
 }

@@ -17,7 +17,7 @@ use Rattle.rules.specs.Answer.{Answer, refusal, isWithdrawn, answerAs, answer, 
 use Rattle.rules.specs.Base.{if_then_else_}
 use Rattle.rules.specs.Rows.{rows, placeholders, toLayOut, isShort, listedAs, listed, listFor, listAs, listedReport, listedBuffer, listAfter}
 use Rattle.records.specs.Sheeted.{Sheeted}
-use Rattle.switched.specs.Count.{few-placeholders}
+use Rattle.switched.specs.Count.{mostPlaceholders, laid-most, few-placeholders}
 use Rattle.twigmantle.specs.Called.{calledAs, listCalled}
 use Rattle.text.specs.Put.{put}
 use Rattle.rules.specs.declared.Outcome.{Outcome}
@@ -81,8 +81,9 @@ module _ (s : List ℕ) (room : ℕ) (b : Bool) (k : ℕ) (r : Report) (out list
 -- ---- a sound sheet
 
 module _ (s : List ℕ) (k : ℕ) (c : Counts) where
-  pub five-fit : Sheeted s c → (n : ℕ) → n ≡ placeholders (tokensOf s c) → 5 * n < 18446744073709551616
-  five-fit h n e = let f = few-placeholders s c in let t = h .few .tokens in omega arith
+  -- five words for each of n, no more than there are tokens
+  pub five-fit : Sheeted s c → (m n : ℕ) → m ≤ c .tokens → n ≡ m → 5 * n < 18446744073709551616
+  five-fit h m n f e = let t = h .few .tokens in omega arith
 
   pub by-asked : (b : Bool) (n : ℕ) → isWithdrawn s ≡ false → b ≡ true → n ≡ placeholders (tokensOf s c) → ltb k (5 * n) ≡ (b && isShort s k (found.Sound c))
   unfolding isShort toLayOut
@@ -91,14 +92,22 @@ module _ (s : List ℕ) (k : ℕ) (c : Counts) where
   pub by-unasked : (b : Bool) → b ≡ false → false ≡ (b && isShort s k (found.Sound c))
   by-unasked b f = rw f
 
-  -- a row for each token is a row for each placeholder
-  pub by-ample : (b : Bool) → isWithdrawn s ≡ false → 5 * c .tokens ≤ k → false ≡ (b && isShort s k (found.Sound c))
+  -- a row for each of n, and n no fewer than the placeholders that are laid out
+  by-row : (b : Bool) (n : ℕ) → isWithdrawn s ≡ false → placeholders (tokensOf s c) ≤ n → 5 * n ≤ k → false ≡ (b && isShort s k (found.Sound c))
   unfolding isShort toLayOut
-  by-ample b w h = let f = few-placeholders s c in rw (w, le-ltb k (5 * placeholders (tokensOf s c)) (omega arith)) (neither b)
+  by-row b n w f h = rw (w, le-ltb k (5 * placeholders (tokensOf s c)) (omega arith)) (neither b)
     where
       neither : (b : Bool) → false ≡ (b && false)
       neither true = refl
       neither false = refl
+
+  -- a row for each token is enough
+  pub by-ample : (b : Bool) → isWithdrawn s ≡ false → 5 * c .tokens ≤ k → false ≡ (b && isShort s k (found.Sound c))
+  by-ample b w h = by-row b (c .tokens) w (few-placeholders s c) h
+
+  -- and so is one for each placeholder, switched off or not
+  pub by-most : (b : Bool) (n : ℕ) → isWithdrawn s ≡ false → n ≡ mostPlaceholders (tokensOf s c) → 5 * n ≤ k → false ≡ (b && isShort s k (found.Sound c))
+  by-most b n w e h = by-row b n w (rw e (laid-most (tokensOf s c))) h
 
   -- the list has room for the rows that are asked for
   pub enough : (b g : Bool) → isWithdrawn s ≡ false → g ≡ (b && isShort s k (found.Sound c)) → g ≡ false → b ≡ true → 5 * placeholders (tokensOf s c) ≤ k

@@ -32,6 +32,7 @@ use rules::Counts;
 use rules::Outcome;
 use rules::Report;
 use state::Context;
+use switched::most_placeholders;
 use switched::placeholders;
 
 fn refused(text: &mut [u8], rows: &mut [u32], number: u32, place: usize) -> Report
@@ -89,6 +90,10 @@ fn is_short(sheet: &[u8], words: usize, with_rows: bool, c: Counts) -> bool
     // A list with a row for each token is never short: then nothing is counted.
     let n = c.tokens;
     if 5 * n <= words {
+        return false;
+    }
+    // Nor is one with a row for each placeholder: the switch is followed only for a shorter one.
+    if 5 * most_placeholders(sheet, c) <= words {
         return false;
     }
     words < 5 * placeholders(sheet, c)

@@ -12,13 +12,16 @@ use Rattle.rules.specs.declared.Case.the-variants as case
 use Rattle.rules.specs.Base.{if_then_else_}
 use Rattle.rules.specs.Text.{isWhite, byteInCase, inCase}
 use Rattle.ascii.specs.Part.{part}
-use Rattle.ascii.proofs.PartLaws.{length-part, part-suc}
+use Rattle.ascii.proofs.PartLaws.{length-part, part-suc, part-more}
 use Rattle.text.specs.Put.{put}
 use Rattle.text.proofs.PutLaws.{put-snoc}
 
 module _ (k : Case) (s : List ℕ) (start : ℕ) where
   pub length-cased : (n : ℕ) → start + n ≤ length s → length (inCase k (part s start n)) ≡ n
   length-cased n h = length-map (part s start n) (byteInCase k) ∙ length-part s start n h
+
+  pub cased-more : (i n : ℕ) → inCase k (part s start (i + n)) ≡ inCase k (part s start i) ++ inCase k (part s (start + i) n)
+  cased-more i n = ap (inCase k) (part-more s start i n) ∙ map-append (byteInCase k) (part s start i) (part s (start + i) n)
 
   cased-suc : (i : ℕ) → start + i < length s → inCase k (part s start (i + 1)) ≡ inCase k (part s start i) ++ (byteInCase k (getD s (start + i) 0) ∷ [])
   cased-suc i h = ap (inCase k) (part-suc s start i h) ∙ map-append (byteInCase k) (part s start i) _

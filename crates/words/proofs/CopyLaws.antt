@@ -1,22 +1,23 @@
 -- Laws of a reserved word that is written straight to the text. Assumes nothing.
 use mathlib.Core.Path.{_≡_, refl, sym, ap, _∙_}
-use mathlib.Core.Bool.{Bool, true, false, _&&_}
-use mathlib.Core.List.{List, [], _∷_, _++_, append-assoc}
-use Prim.Native.Nat.{ℕ, _+_, _≤_, _<_}
+use mathlib.Core.Bool.{Bool, true, false}
+use mathlib.Core.List.{List, [], _∷_, _++_, append-assoc, append-nil}
+use Prim.Native.Nat.{ℕ, _+_, _-_, _≤_, _<_}
 use native.Mathlib.Nat.{add-zero}
 use native.Mathlib.Omega.{arith}
 use lib.Dec.{ltb}
-use lib.ListN.{length, drop, set, getD, length-append}
+use lib.ListN.{length, set, getD, length-append}
 use lib.Seq.{drop-drop}
 use Rattle.rules.specs.declared.Case.{Case}
-use Rattle.rules.specs.Text.{isWhite, byteInCase, inCase, equalizeWhitespace}
+use Rattle.rules.specs.Text.{isWhite, byteInCase, inCase}
 use Rattle.ascii.specs.Part.{part}
-use Rattle.ascii.proofs.PartLaws.{part-next, part-end}
+use Rattle.ascii.proofs.PartLaws.{part-cons}
 use Rattle.text.specs.Put.{put}
-use Rattle.text.proofs.PutLaws.{put-nil, put-snoc, length-put, take-put, drop-put}
-use Rattle.words.specs.Words.{Written, spaced}
-use Rattle.words.proofs.CaseLaws.{case-white}
-use Rattle.words.proofs.JoinLaws.{restOf, none-left, white-step, rest-starts, rest-black}
+use Rattle.text.proofs.PutLaws.{put-nil, put-snoc, take-put, drop-put, by-none}
+use Rattle.words.specs.declared.Joined.{Joined}
+use Rattle.words.specs.Words.{Written, spaced, piece, gapAfter, fresh, pieceAt, Joins, allWhite}
+use Rattle.words.proofs.CaseLaws.{case-white, cased-more}
+use Rattle.words.proofs.JoinLaws.{piece-black, gap-black, piece-more, white-piece, white-gap, black-piece, black-gap}
 
 -- ---- a byte with its gap
 
@@ -37,7 +38,7 @@ module _ (d : List ℕ) (at : ℕ) (gap : Bool) (b : ℕ) (h : at + length (spac
       let l : at + 1 ≤ length d = rw e at h in
       rw e (record { bytes = put-one d at b (omega arith); ends = refl })
 
--- ---- the loop
+-- ---- one part after another
 
 -- one list written behind another
 put-put : (d : List ℕ) (at : ℕ) (p q : List ℕ) → at ≤ length d → put (put d at p) (at + length p) q ≡ put d at (p ++ q)
@@ -46,71 +47,107 @@ put-put d at p q h =
     let e : at + length (p ++ q) ≡ at + length p + length q = simp length-append (omega arith) in
     rw (take-put d at p h, ← drop-drop (length q) (at + length p) (put d at p), drop-put d at p h, drop-drop, e) (simp append-assoc)
 
--- with rest written at end, the buffer t is d with the whole written at at
-pub record Copying (d : List ℕ) (at : ℕ) (whole rest t : List ℕ) (end : ℕ) : Type 0 where
-  pub same : length t ≡ length d
-  pub from : at ≤ end
-  pub long : end + length rest ≡ at + length whole
-  pub left : put t end rest ≡ put d at whole
+abbrev pub soFar : ℕ → Bool → Joined
+soFar end gap = record { end = end; gap = gap }
 
-module _ {d : List ℕ} {at : ℕ} {whole rest t : List ℕ} {end : ℕ} (l : Copying d at whole rest t end) where
-  -- nothing is written
-  copy-same : (more : List ℕ) → rest ≡ more → Copying d at whole more t end
-  copy-same more e =
-      record { same = l .same; from = l .from; long = ap (λ (v : List ℕ). end + length v) (sym e) ∙ l .long; left = ap (put t end) (sym e) ∙ l .left }
+-- a word is not longer for less of it
+shorter : (at : ℕ) (j : Joined) (v w : List ℕ) → at ≤ j .end → length (pieceAt at j v) ≤ length (pieceAt at j (v ++ w))
+shorter at j v w h =
+    let e = ap length (piece-more at w (j .end) (j .gap) v h .0) ∙ length-append (pieceAt at j v) _ in
+    omega arith
 
-  module _ (r : at + length whole ≤ length d) (v more : List ℕ) (e : rest ≡ v ++ more) where
-    copy-room : end + length v ≤ length t
-    copy-room =
-        let m : length rest ≡ length v + length more = ap length e ∙ length-append v more in
-        let f = l .long in
-        let g = l .same in
+module _ (at : ℕ) (d : List ℕ) (j : Joined) (v t : List ℕ) (k : Joined) (h : at ≤ j .end) (p : Joins at d j v t k) (w : List ℕ) where
+  next : pieceAt at j (v ++ w) ≡ pieceAt at j v ++ pieceAt at k w
+  next = rw (p .wrote .ends, p .gap) (piece-more at w (j .end) (j .gap) v h .0)
+
+  longer : length (pieceAt at j (v ++ w)) ≡ length (pieceAt at j v) + length (pieceAt at k w)
+  longer = ap length next ∙ length-append (pieceAt at j v) (pieceAt at k w)
+
+  joins-more : (t′ : List ℕ) (l : Joined) → j .end ≤ length d → Joins at t k w t′ l → Joins at d j (v ++ w) t′ l
+  joins-more t′ l r q =
+      let e = p .wrote .ends in
+      let f = q .wrote .ends in
+      let m = longer in
+      let b : t′ ≡ put (put d (j .end) (pieceAt at j v)) (j .end + length (pieceAt at j v)) (pieceAt at k w) =
+      q .wrote .bytes ∙ rw (p .wrote .bytes, e) in
+      record {
+        wrote = record { bytes = b ∙ put-put d (j .end) (pieceAt at j v) (pieceAt at k w) r ∙ ap (put d (j .end)) (sym next); ends = omega arith };
+        gap = q .gap ∙ sym (piece-more at w (j .end) (j .gap) v h .1 ∙ rw (p .wrote .ends, p .gap));
+      }
+
+-- ---- what a part writes
+
+module _ (at : ℕ) (t : List ℕ) (j : Joined) (v : List ℕ) where
+  pub joins-white : allWhite true v ≡ true → 1 ≤ length v → Joins at t j v t (soFar (j .end) (ltb at (j .end)))
+  joins-white h l =
+      let e = white-piece (ltb at (j .end)) (j .gap) v h in
+      record {
+        wrote = record { bytes = by-none t (j .end) ∙ ap (put t (j .end)) (sym e); ends = let n = ap length e in omega arith };
+        gap = sym (white-gap (ltb at (j .end)) (j .gap) v h l);
+      }
+
+  pub joins-black : allWhite false v ≡ true → j .gap ≡ false → (t′ : List ℕ) → t′ ≡ put t (j .end) v → Joins at t j v t′ (soFar (j .end + length v) false)
+  joins-black h g t′ q =
+      let e : pieceAt at j v ≡ v = ap (λ (b : Bool). piece (ltb at (j .end)) b v) g ∙ black-piece (ltb at (j .end)) v h in
+      record {
+        wrote = record { bytes = q ∙ ap (put t (j .end)) (sym e); ends = let n = ap length e in omega arith };
+        gap = sym (ap (λ (b : Bool). gapAfter (ltb at (j .end)) b v) g ∙ black-gap (ltb at (j .end)) v h);
+      }
+
+-- ---- the loops: i bytes of n are joined
+
+pub by-none-joined : (at : ℕ) (d : List ℕ) (j : Joined) (s : List ℕ) (start : ℕ) (c : Case) → Joins at d j (inCase c (part s start 0)) d j
+by-none-joined at d j s start c = record { wrote = record { bytes = by-none d (j .end); ends = omega arith }; gap = refl }
+
+pub by-from : (at : ℕ) (d v t : List ℕ) (k : Joined) → Joins at d (fresh at) v t k → at ≤ k .end
+by-from at d v t k p = let e = p .wrote .ends in omega arith
+
+pub by-all-joined : (at : ℕ) (d : List ℕ) (j : Joined) (s : List ℕ) (start n i : ℕ) (c : Case) (t : List ℕ) (k : Joined) → i ≤ n → n ≤ i
+    → Joins at d j (inCase c (part s start i)) t k → Joins at d j (inCase c (part s start n)) t k
+by-all-joined at d j s start n i c t k h g p = let e : i ≡ n = omega arith in rw e at p
+
+module _ (at : ℕ) (d : List ℕ) (j : Joined) (s : List ℕ) (start n : ℕ) (c : Case) (h : at ≤ j .end)
+    (r : j .end + length (pieceAt at j (inCase c (part s start n))) ≤ length d) where
+  pub by-part-room : (i : ℕ) → i ≤ n → j .end + length (pieceAt at j (inCase c (part s start i))) ≤ length d
+  by-part-room i b =
+      let m : n ≡ i + (n - i) = omega arith in
+      let e = ap (λ (o : ℕ). length (pieceAt at j (inCase c (part s start o)))) m ∙ ap (λ (v : List ℕ). length (pieceAt at j v)) (cased-more c s start i (n - i)) in
+      let l = shorter at j (inCase c (part s start i)) (inCase c (part s (start + i) (n - i))) h in
+      omega arith
+
+  module _ (i : ℕ) (t : List ℕ) (end : ℕ) (gap : Bool) (p : Joins at d j (inCase c (part s start i)) t (soFar end gap)) where
+    pub by-more : (m : ℕ) (t′ : List ℕ) (l : Joined) → Joins at t (soFar end gap) (inCase c (part s (start + i) m)) t′ l → Joins at d j (inCase c (part s start (i + m))) t′ l
+    by-more m t′ l q = rw (cased-more c s start i m) (joins-more at d j (inCase c (part s start i)) t (soFar end gap) h p (inCase c (part s (start + i) m)) t′ l (omega arith) q)
+
+    pub by-room : (m : ℕ) → i + m ≤ n → length t ≡ length d → end + length (pieceAt at (soFar end gap) (inCase c (part s (start + i) m))) ≤ length t
+    by-room m b e =
+        let l = by-part-room (i + m) b in
+        let f = ap (λ (v : List ℕ). length (pieceAt at j v)) (cased-more c s start i m) ∙ longer at d j (inCase c (part s start i)) t (soFar end gap) h p (inCase c (part s (start + i) m)) in
+        let g = p .wrote .ends in
         omega arith
 
-    -- a piece is written
-    copy-goes : {t′ : List ℕ} {end′ : ℕ} → Written t end v t′ end′ → Copying d at whole more t′ end′
-    copy-goes w =
-        let f = w .bytes in
-        let g = w .ends in
-        let m : length rest ≡ length v + length more = ap length e ∙ length-append v more in
-        let o = l .from in
-        let q = l .long in
-        record {
-          same = ap length f ∙ length-put t end v copy-room ∙ l .same;
-          from = omega arith;
-          long = omega arith;
-          left = rw (f, g) (put-put t end v more (let x = copy-room in omega arith) ∙ ap (put t end) (sym e) ∙ l .left);
-        }
+    -- a byte
+    module _ (b : Bool) (o : start + n ≤ length s) (a : i < n) (f : b ≡ isWhite (getD s (start + i) 0)) where
+      one : inCase c (part s (start + i) 1) ≡ byteInCase c (getD s (start + i) 0) ∷ []
+      one = ap (inCase c) (part-cons s (start + i) 0 (omega arith))
 
-  copy-ends : rest ≡ [] → Written d at whole t end
-  copy-ends e =
-      let f : end + 0 ≡ at + length whole = ap (λ (v : List ℕ). end + length v) (sym e) ∙ l .long in
-      record { bytes = sym (put-nil t end) ∙ ap (put t end) (sym e) ∙ l .left; ends = omega arith }
+      white : (w : Bool) → b ≡ w → isWhite (byteInCase c (getD s (start + i) 0)) ≡ w
+      white w e = case-white c (getD s (start + i) 0) ∙ sym f ∙ e
 
-module _ (d : List ℕ) (at : ℕ) (s : List ℕ) (start n : ℕ) (k : Case) where
-  pub by-start : Copying d at (equalizeWhitespace (inCase k (part s start n))) (restOf (ltb at at) false (inCase k (drop 0 (part s start n)))) d at
-  by-start = copy-same (record { same = refl; from = omega arith; long = refl; left = refl }) _ (sym (rest-starts at _))
+      pub by-white : b ≡ true → Joins at d j (inCase c (part s start (i + 1))) t (soFar end (ltb at end))
+      by-white e = by-more 1 t _ (rw one (joins-white at t (soFar end gap) (byteInCase c (getD s (start + i) 0) ∷ []) (rw (white true e)) (omega arith)))
 
-  module _ (whole t : List ℕ) (end i : ℕ) (gap : Bool) (h : start + n ≤ length s)
-      (l : Copying d at whole (restOf (ltb at end) gap (inCase k (drop i (part s start n)))) t end) where
-    pub by-end : n ≤ i → Written d at whole t end
-    by-end c = copy-ends l (rw (part-end s start n i h c) (none-left (ltb at end) gap))
+      module _ (y : ℕ) (e : b ≡ false) (g : y ≡ byteInCase c (getD s (start + i) 0)) where
+        black : pieceAt at (soFar end gap) (inCase c (part s (start + i) 1)) ≡ spaced gap y
+        black =
+            ap (pieceAt at (soFar end gap)) one ∙ piece-black (ltb at end) gap (byteInCase c (getD s (start + i) 0)) [] (white false e) ∙ rw g (append-nil (spaced gap (byteInCase c (getD s (start + i) 0))))
 
-    module _ (b : Bool) (c : i < n) (f : b ≡ isWhite (getD s (start + i) 0)) where
-      white : (w : Bool) → b ≡ w → isWhite (byteInCase k (getD s (start + i) 0)) ≡ w
-      white w e = case-white k _ ∙ sym f ∙ e
+        pub by-byte-room : length t ≡ length d → end + length (spaced gap y) ≤ length t
+        by-byte-room q = let l = by-room 1 (omega arith) q in let m = ap length black in omega arith
 
-      pub by-white : b ≡ true → Copying d at whole (restOf (ltb at end) (ltb at end) (inCase k (drop (i + 1) (part s start n)))) t end
-      by-white e = copy-same l _ (rw (part-next s start n i h c) (white-step (ltb at end) gap _ _ (white true e)))
-
-      module _ (y : ℕ) (e : b ≡ false) (g : gap && ltb at end ≡ gap) (p : y ≡ byteInCase k (getD s (start + i) 0)) (r : at + length whole ≤ length d) where
-        next : restOf (ltb at end) gap (inCase k (drop i (part s start n)))
-            ≡ spaced gap y ++ restOf (ltb at (end + length (spaced gap y))) false (inCase k (drop (i + 1) (part s start n)))
-        next = rw (part-next s start n i h c, p) (rest-black at _ end gap _ (l .from) g (white false e))
-
-        pub by-room : end + length (spaced gap y) ≤ length t
-        by-room = copy-room l r (spaced gap y) _ next
-
-        pub by-black : (t′ : List ℕ) (end′ : ℕ) → Written t end (spaced gap y) t′ end′
-            → Copying d at whole (restOf (ltb at end′) false (inCase k (drop (i + 1) (part s start n)))) t′ end′
-        by-black t′ end′ q = copy-goes l r (spaced gap y) _ (next ∙ rw (q .ends)) q
+        pub by-black : (t′ : List ℕ) (end′ : ℕ) → Written t end (spaced gap y) t′ end′ → Joins at d j (inCase c (part s start (i + 1))) t′ (soFar end′ false)
+        by-black t′ end′ q =
+            by-more 1 t′ _ (record {
+              wrote = rw black q;
+              gap = sym (ap (gapAfter (ltb at end) gap) one ∙ gap-black (ltb at end) gap (byteInCase c (getD s (start + i) 0)) [] (white false e));
+            })

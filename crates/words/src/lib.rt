@@ -11,15 +11,16 @@ use text::append_indent;
 use text::append_part;
 use text::refuse;
 ghost use mathlib.Core.Path.{_≡_};
+ghost use mathlib.Core.Bool.{true, _&&_};
 ghost use mathlib.Core.List.{_∷_};
-ghost use Prim.Native.Nat.{_+_, _≤_};
+ghost use Prim.Native.Nat.{_+_, _%_, _≤_};
 ghost use lib.Dec.{leb};
 ghost use lib.ListN.{length};
 ghost use Rattle.rules.specs.Text.{inCase, equalizeWhitespace, indentComment, indentOf, append};
 ghost use Rattle.ascii.specs.Part.{part};
 ghost use Rattle.text.specs.Put.{put};
 ghost use Rattle.text.specs.Held.{textOf, Held, Laid};
-ghost use Rattle.words.specs.Words.{Written, spaced, blanks, leadOf};
+ghost use Rattle.words.specs.Words.{Written, spaced, fresh, pieceAt, Joins, allWhite, blanks, leadOf};
 
 // ---- a word in a case
 
@@ -77,15 +78,29 @@ fn copy_spaced(text: &mut [u8], at: usize, gap: bool, b: u8) -> usize
     at + 1
 }
 
+// How far a joined word is written, and whether white was read since.
+struct Joined {
+    end: usize,
+    gap: bool,
+}
+
 // In one pass: white before the first other byte is left out, and white after one is a gap, written as a blank before the next.
 // No case makes a byte white that was not, or the other way: white is tested on the value's own byte.
-fn copy_joined(text: &mut [u8], at: usize, src: &[u8], start: usize, n: usize, k: Case) -> usize
-    requires { ⌜ at + length (equalizeWhitespace (inCase k (part (now src) start n))) ≤ length (now text) ⌝ }
+fn join_bytes(
+    text: &mut [u8],
+    at: usize,
+    from: Joined,
+    src: &[u8],
+    start: usize,
+    n: usize,
+    k: Case,
+) -> Joined
+    requires { ⌜ (at ≤ from .end) × (from .end + length (pieceAt at from (inCase k (part (now src) start n))) ≤ length (now text)) ⌝ }
     requires { ⌜ start + n ≤ length (now src) ⌝ }
-    ensures { λ r. ⌜ Written (now (text .entry)) at (equalizeWhitespace (inCase k (part (now (src .entry)) start n))) (now (text .exit)) r ⌝ }
+    ensures { λ r. ⌜ Joins at (now (text .entry)) from (inCase k (part (now (src .entry)) start n)) (now (text .exit)) r ⌝ }
 {
-    let mut end = at;
-    let mut gap = false;
+    let mut end = from.end;
+    let mut gap = from.gap;
     let mut i = 0;
     while i < n {
         let b = src[start + i];
@@ -97,7 +112,97 @@ fn copy_joined(text: &mut [u8], at: usize, src: &[u8], start: usize, n: usize, k
         end = copy_spaced(text, end, gap, in_case(k, b));
         gap = false;
     }
-    end
+    Joined { end, gap }
+}
+
+// Whether n bytes are all white, or none is. No branch for each byte, so that many are tested at a time.
+fn all_white(src: &[u8], start: usize, n: usize, white: bool) -> bool
+    requires { ⌜ start + n ≤ length (now src) ⌝ }
+    ensures { λ r. ⌜ r ≡ allWhite white (part (now (src .entry)) start n) ⌝ }
+{
+    let mut all: bool = true;
+    let mut i = 0;
+    while i < n {
+        all &= is_white(src[start + i]) == white;
+        i += 1;
+    }
+    all
+}
+
+// How many bytes from start on are white, or are not, in whole blocks of 32.
+fn run_of(src: &[u8], start: usize, n: usize, white: bool) -> usize
+    requires { ⌜ start + n ≤ length (now src) ⌝ }
+    ensures { λ r. ⌜ (r ≤ n) × (r % 32 ≡ 0) × (allWhite white (part (now (src .entry)) start r) ≡ true) ⌝ }
+{
+    let mut i = 0;
+    while 32 <= n - i {
+        if !all_white(src, start + i, 32, white) {
+            return i;
+        }
+        i += 32;
+    }
+    i
+}
+
+// One test of two, so that a turn has one branch for them.
+fn both(a: bool, b: bool) -> bool
+    ensures { λ r. ⌜ r ≡ (a && b) ⌝ }
+{
+    if a {
+        return b;
+    }
+    false
+}
+
+// Whole blocks: a long word goes many bytes at a time where they are all white, or none is.
+fn join_blocks(text: &mut [u8], at: usize, src: &[u8], start: usize, n: usize, k: Case) -> Joined
+    requires { ⌜ at + length (pieceAt at (fresh at) (inCase k (part (now src) start n))) ≤ length (now text) ⌝ }
+    requires { ⌜ (start + n ≤ length (now src)) × (n % 32 ≡ 0) ⌝ }
+    ensures { λ r. ⌜ Joins at (now (text .entry)) (fresh at) (inCase k (part (now (src .entry)) start n)) (now (text .exit)) r ⌝ }
+{
+    let mut j = Joined {
+        end: at,
+        gap: false,
+    };
+    let mut i = 0;
+    while 32 <= n - i {
+        let end = j.end;
+        let gap = j.gap;
+        let white = run_of(src, start + i, n - i, true);
+        if white != 0 {
+            i += white;
+            j = Joined { end, gap: at < end };
+            continue;
+        }
+        // A run after a gap has its blank written with its first block, a byte at a time.
+        let run = run_of(src, start + i, n - i, false);
+        if both(!gap, run != 0) {
+            copy_cased(text, end, src, start + i, run, k);
+            i += run;
+            let past = end + run;
+            j = Joined {
+                end: past,
+                gap: false,
+            };
+            continue;
+        }
+        j = join_bytes(text, at, j, src, start + i, 32, k);
+        i += 32;
+    }
+    j
+}
+
+// Whole blocks, then the bytes after them.
+fn copy_joined(text: &mut [u8], at: usize, src: &[u8], start: usize, n: usize, k: Case) -> usize
+    requires { ⌜ at + length (equalizeWhitespace (inCase k (part (now src) start n))) ≤ length (now text) ⌝ }
+    requires { ⌜ start + n ≤ length (now src) ⌝ }
+    ensures { λ r. ⌜ Written (now (text .entry)) at (equalizeWhitespace (inCase k (part (now (src .entry)) start n))) (now (text .exit)) r ⌝ }
+{
+    let rest = n % 32;
+    let whole = n - rest;
+    let j = join_blocks(text, at, src, start, whole, k);
+    let all = join_bytes(text, at, j, src, start + whole, rest, k);
+    all.end
 }
 
 // How many bytes a byte takes with its gap.

@@ -61,12 +61,15 @@ loop-again c =
     let b = c .before .before .before .before .before .before .before .before .body-at in
     count-on (now (a .sheet)) (b .result) (a .c .tokens) (l .count) (l .i) (switchOf (l .switch)) (l .inv) (c .before .before .before .before .before .loop-test .taken) (c .before .before .before .before .kind-at .result) (c .before .before .before .before .kind-at .ensures) (c .before .before .before .turn-at .result) (c .before .before .before .turn-at .ensures) (c .before .before .lays-out .result) (c .before .before .lays-out .ensures) (c .before .counted .result) (c .before .counted .ensures) (switchOf (c .after .result)) (c .after .ensures)
 
+to-usize-requires : tie.Need-to-usize-requires Inv-loop μ-loop
+to-usize-requires c κs = search needs
+
 returns : tie.Need-returns Inv-loop μ-loop
 returns c =
-    let l = c .before .loop in
-    let a = c .before .before .before .before .before .args in
-    let b = c .before .before .before .body-at in
-    count-done (now (a .sheet)) (b .result) (a .c .tokens) (l .count) (l .i) (switchOf (l .switch)) (l .inv) (a .c) (c .loop-test .left) (b .ensures) refl ∙ count-all (now (a .sheet)) (a .c)
+    let l = c .before .before .loop in
+    let a = c .before .before .before .before .before .before .args in
+    let b = c .before .before .before .before .body-at in
+    c .to-usize .ensures .0 ∙ count-done (now (a .sheet)) (b .result) (a .c .tokens) (l .count) (l .i) (switchOf (l .switch)) (l .inv) (a .c) (c .before .loop-test .left) (b .ensures) refl ∙ count-all (now (a .sheet)) (a .c)
 
 pub placeholders-spec : {M : Type 1} → statement M
 placeholders-spec =
@@ -85,4 +88,5 @@ placeholders-spec =
     add-i
     loop-less
     loop-again
+    to-usize-requires
     returns)

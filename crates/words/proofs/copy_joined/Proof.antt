@@ -1,77 +1,35 @@
 use borrow.Author.Needs.{needs}
-use mathlib.Core.Path.{_≡_}
-use mathlib.Core.Bool.{_&&_, and-self}
-use Prim.Native.Nat.{_-_, _≤_}
-use lib.Dec.{ltb}
-use lib.ListN.{drop}
-use Rattle.rules.specs.Text.{inCase, equalizeWhitespace}
-use Rattle.ascii.specs.Part.{part}
-use Rattle.words.proofs.JoinLaws.{restOf}
-use Rattle.words.proofs.CopyLaws.{Copying, by-start, by-end, by-white, by-room, by-black}
+use Rattle.words.proofs.CopyLaws.{by-from}
+use Rattle.words.proofs.BlockLaws.{by-whole-room, by-rest-room, by-joined}
+use borrow.Author.Needs.{needs}
 use Rattle.words.proofs.copy_joined.Statement.{statement}
 use Rattle.words.proofs.copy_joined.Tie as tie
 
-abbrev Inv-loop : tie.InvT-loop
-Inv-loop text₀ at src start n k end₀ gap₀ i₀ text end gap i = (i ≤ n) × Copying text₀ at (equalizeWhitespace (inCase k (part src start n))) (restOf (ltb at end) gap (inCase k (drop i (part src start n)))) text end × (gap && ltb at end ≡ gap)
+sub-whole : tie.Need-sub-whole
+sub-whole c = search needs
 
-abbrev μ-loop : tie.MeasureT-loop
-μ-loop text₀ at src start n k end₀ gap₀ i₀ text end gap i = n - i
+join-blocks-requires : tie.Need-join-blocks-requires
+join-blocks-requires c κs = search (needs, by-whole-room)
 
-loop-holds : tie.Need-loop-holds Inv-loop μ-loop
-loop-holds c = search (needs, by-start)
+add-join-bytes : tie.Need-add-join-bytes
+add-join-bytes c = search needs
 
-add-b : tie.Need-add-b Inv-loop μ-loop
-add-b c = search needs
+join-bytes-requires : tie.Need-join-bytes-requires
+join-bytes-requires c κs = ((search (needs, by-from), search (needs, by-rest-room)), search needs)
 
-shared-slice-read-b : tie.Need-shared-slice-read-b Inv-loop μ-loop
-shared-slice-read-b c = search needs
-
-add-i : tie.Need-add-i Inv-loop μ-loop
-add-i c = search needs
-
-is-white-requires : tie.Need-is-white-requires Inv-loop μ-loop
-is-white-requires c κs = search needs
-
-loop-less : tie.Need-loop-less Inv-loop μ-loop
-loop-less c = search needs
-
-loop-again : tie.Need-loop-again Inv-loop μ-loop
-loop-again c = search (needs, by-white, and-self)
-
-in-case-requires : tie.Need-in-case-requires Inv-loop μ-loop
-in-case-requires c κs = search needs
-
-copy-spaced-requires : tie.Need-copy-spaced-requires Inv-loop μ-loop
-copy-spaced-requires c κs = search (needs, by-room)
-
-loop-less-2 : tie.Need-loop-less-2 Inv-loop μ-loop
-loop-less-2 c = search needs
-
-loop-again-2 : tie.Need-loop-again-2 Inv-loop μ-loop
-loop-again-2 c = search (needs, by-black)
-
-same-length : tie.Need-same-length Inv-loop μ-loop
+same-length : tie.Need-same-length
 same-length c = search needs
 
-returns : tie.Need-returns Inv-loop μ-loop
-returns c = search (needs, by-end)
+returns : tie.Need-returns
+returns c = search (needs, by-joined)
 
 pub copy-joined-spec : {M : Type 1} → statement M
 copy-joined-spec =
     tie.close
     (tie.spec
-    Inv-loop
-    μ-loop
-    loop-holds
-    add-b
-    shared-slice-read-b
-    add-i
-    is-white-requires
-    loop-less
-    loop-again
-    in-case-requires
-    copy-spaced-requires
-    loop-less-2
-    loop-again-2
+    sub-whole
+    join-blocks-requires
+    add-join-bytes
+    join-bytes-requires
     same-length
     returns)

@@ -1,25 +1,24 @@
 use borrow.Author.Needs.{needs}
 use native.Mathlib.Omega.{arith}
 use mathlib.Core.Path.{_≡_}
-use mathlib.Core.Bool.{_&&_, and-self}
 use Prim.Native.Nat.{_+_, _-_, _≤_}
 use lib.Dec.{ltb}
 use lib.ListN.{length, drop}
 use Rattle.rules.specs.Text.{equalizeWhitespace}
 use Rattle.ascii.specs.Part.{part}
-use Rattle.words.proofs.JoinLaws.{restOf}
-use Rattle.words.proofs.RoomLaws.{joined-short, by-counted, by-count-white, by-count-black, by-count-fits}
+use Rattle.words.specs.Words.{piece}
+use Rattle.words.proofs.RoomLaws.{joined-short, by-count-start, by-counted, by-count-white, by-count-black, by-count-fits}
 use Rattle.words.proofs.joined_len.Statement.{statement}
 use Rattle.words.proofs.joined_len.Tie as tie
 
 abbrev Inv-loop : tie.InvT-loop
-Inv-loop src start n len₀ gap₀ i₀ len gap i = (i ≤ n) × (len + length (restOf (ltb 0 len) gap (drop i (part src start n))) ≡ length (equalizeWhitespace (part src start n))) × (gap && ltb 0 len ≡ gap)
+Inv-loop src start n len₀ gap₀ i₀ len gap i = (i ≤ n) × (len + length (piece (ltb 0 len) gap (drop i (part src start n))) ≡ length (equalizeWhitespace (part src start n)))
 
 abbrev μ-loop : tie.MeasureT-loop
 μ-loop src start n len₀ gap₀ i₀ len gap i = n - i
 
 loop-holds : tie.Need-loop-holds Inv-loop μ-loop
-loop-holds c = search needs
+loop-holds c = search (needs, by-count-start)
 
 add-b : tie.Need-add-b Inv-loop μ-loop
 add-b c = search needs
@@ -37,7 +36,7 @@ loop-less : tie.Need-loop-less Inv-loop μ-loop
 loop-less c = search needs
 
 loop-again : tie.Need-loop-again Inv-loop μ-loop
-loop-again c = search (needs, by-count-white, and-self)
+loop-again c = search (needs, by-count-white)
 
 spaced-len-requires : tie.Need-spaced-len-requires Inv-loop μ-loop
 spaced-len-requires c κs = search needs

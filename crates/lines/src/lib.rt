@@ -1,0 +1,158 @@
+// The lines of a text and its width, counted a stretch at a time.
+use ascii::find;
+use columns::Measure;
+use columns::by_columns;
+use columns::passed;
+use longest::larger;
+use longest::longest_line;
+use longest::past_last;
+ghost use mathlib.Core.Path.{_≡_};
+ghost use Prim.Native.Nat.{_+_, _*_, _^_, _≤_, _<_};
+ghost use lib.Dec.{eqb};
+ghost use lib.ListN.{length, take};
+ghost use Rattle.rules.specs.Base.{if_then_else_};
+ghost use Rattle.rules.proofs.Columns.{longestFrom};
+ghost use Rattle.ascii.specs.Part.{part};
+ghost use Rattle.columns.specs.Measured.{measure};
+ghost use Rattle.lines.specs.Marked.{Marked, sizeOf};
+
+pub struct Size {
+    pub lines: usize,
+    pub width: usize,
+}
+
+// ---- line feeds and tabs
+
+// `tab` is not 0 where a tab stands.
+pub struct Marks {
+    pub feeds: usize,
+    pub tab: u8,
+}
+
+fn equal(a: u8, b: u8) -> u8
+    ensures { λ r. ⌜ (r ≡ (if eqb a b then 1 else 0)) × (r ≤ 1) ⌝ }
+{
+    if a == b { 1 } else { 0 }
+}
+
+// No branch for each byte, and so few bytes that their line feeds, summed, fit in one: a block of a fixed length is counted many
+// bytes at a time.
+fn marks_in(text: &[u8], start: usize, n: usize) -> Marks
+    requires { ⌜ (start + n ≤ length (now text)) × (n ≤ 192) ⌝ }
+    ensures { λ r. ⌜ Marked (part (now (text .entry)) start n) r × (r .feeds ≤ n) ⌝ }
+{
+    let mut feeds: u8 = 0;
+    let mut tab: u8 = 0;
+    let mut i = 0;
+    while i < n {
+        let b = text[start + i];
+        feeds += equal(b, 10);
+        tab |= equal(b, 9);
+        i += 1;
+    }
+    Marks {
+        feeds: feeds as usize,
+        tab,
+    }
+}
+
+fn all_marks(text: &[u8], start: usize, n: usize) -> Marks
+    requires { ⌜ start + n ≤ length (now text) ⌝ }
+    ensures { λ r. ⌜ Marked (part (now (text .entry)) start n) r × (r .feeds ≤ n) ⌝ }
+{
+    let mut feeds = 0;
+    let mut tab: u8 = 0;
+    let mut i = 0;
+    while 192 <= n - i {
+        let m = marks_in(text, start + i, 192);
+        feeds += m.feeds;
+        tab |= m.tab;
+        i += 192;
+    }
+    let m = marks_in(text, start + i, n - i);
+    Marks {
+        feeds: feeds + m.feeds,
+        tab: tab | m.tab,
+    }
+}
+
+// ---- without tabs a column is a byte
+
+// The longest line, `at` bytes of the first standing before.
+fn longest_from(text: &[u8], start: usize, n: usize, m: Measure) -> usize
+    requires { ⌜ (start + n ≤ length (now text)) × (m .at + n < 2 ^ 63) ⌝ }
+    ensures { λ r. ⌜ r ≡ longestFrom (m .at) (m .best) (part (now (text .entry)) start n) ⌝ }
+{
+    let at = m.at;
+    // A line that cannot be the longest is not looked for.
+    if at + n <= m.best {
+        return m.best;
+    }
+    if at == 0 {
+        return longest_line(text, start, n, m.best);
+    }
+    let first = find(text, start, n, 10);
+    let best = larger(at + first, m.best);
+    if first == n {
+        return best;
+    }
+    longest_line(text, start + first + 1, n - first - 1, best)
+}
+
+// ---- lines and width
+
+// A stretch is counted by the cheapest way that its marks allow.
+fn stretch(text: &[u8], start: usize, n: usize, k: Marks, m: Measure) -> Measure
+    requires { ⌜ (start + n ≤ length (now text)) × (m .at ≤ m .best) × (m .at + 8 * n < 2 ^ 63) ⌝ }
+    requires { ⌜ Marked (part (now text) start n) k ⌝ }
+    ensures { λ r. ⌜ r ≡ measure m (part (now (text .entry)) start n) ⌝ }
+{
+    if k.tab != 0 {
+        return by_columns(text, start, n, m);
+    }
+    if k.feeds == 0 {
+        return passed(m, n);
+    }
+    let at = n - past_last(text, start, n);
+    Measure {
+        at,
+        best: longest_from(text, start, n, m),
+    }
+}
+
+// The last one: nobody asks for the column at its end.
+fn last_stretch(text: &[u8], start: usize, n: usize, k: Marks, m: Measure) -> usize
+    requires { ⌜ (start + n ≤ length (now text)) × (m .at ≤ m .best) × (m .at + 8 * n < 2 ^ 63) ⌝ }
+    requires { ⌜ Marked (part (now text) start n) k ⌝ }
+    ensures { λ r. ⌜ r ≡ measure m (part (now (text .entry)) start n) .best ⌝ }
+{
+    if k.tab != 0 {
+        let all = by_columns(text, start, n, m);
+        return all.best;
+    }
+    longest_from(text, start, n, m)
+}
+
+// A stretch, 21 blocks of marks, is so short that it is still near when it is read again, and that few have a tab where tabs are few.
+pub fn lines_width(text: &[u8], len: usize) -> Size
+    requires { ⌜ (len ≤ length (now text)) × (len < 2 ^ 60) ⌝ }
+    ensures { λ r. ⌜ r ≡ sizeOf (take len (now (text .entry))) ⌝ }
+{
+    if len == 0 {
+        return Size { lines: 0, width: 0 };
+    }
+    let mut m = Measure { at: 0, best: 0 };
+    let mut lines = 1;
+    let mut i = 0;
+    while 4032 < len - i {
+        let k = all_marks(text, i, 4032);
+        m = stretch(text, i, 4032, k, m);
+        lines += k.feeds;
+        i += 4032;
+    }
+    let k = all_marks(text, i, len - i);
+    Size {
+        lines: lines + k.feeds,
+        width: last_stretch(text, i, len - i, k, m),
+    }
+}
