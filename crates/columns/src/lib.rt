@@ -29,7 +29,7 @@ fn column_after(at: usize, b: u8) -> usize
     at + 1
 }
 
-// No branch for each byte.
+// A byte at a time: each column hangs on the one before it.
 fn measured(text: &[u8], start: usize, n: usize, m: Measure) -> Measure
     requires { ⌜ (start + n ≤ length (now text)) × (m .at + 8 * n < 2 ^ 63) ⌝ }
     ensures { λ r. ⌜ r ≡ measure m (part (now (text .entry)) start n) ⌝ }

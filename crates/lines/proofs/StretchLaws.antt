@@ -14,7 +14,7 @@ use Rattle.ascii.specs.Part.{part, has, before}
 use Rattle.ascii.proofs.PartLaws.{length-part, part-cons, part-more, part-drop, part-end}
 use Rattle.lines.specs.declared.Marks.{Marks}
 use Rattle.columns.specs.declared.Measure.{Measure}
-use Rattle.lines.specs.Marked.{Marked, since}
+use Rattle.lines.specs.Marked.{Marked}
 use Rattle.columns.specs.Measured.{oneOn, measure}
 use Rattle.columns.proofs.MeasureLaws.{Counted, counted-on, by-rest}
 use Rattle.lines.proofs.MarkLaws.{no-tab}
@@ -22,6 +22,11 @@ use Rattle.longest.specs.Short.{Last}
 use Rattle.longest.proofs.LongestLaws.{rest, exact}
 
 -- ---- the column at the end
+
+-- the column after bytes without a tab: how many stand after the last line feed, or all of them and those before
+abbrev pub since : ℕ → List ℕ → ℕ
+since at [] = at
+since at (x ∷ xs) = since (if eqb x 10 then 0 else suc at) xs
 
 since-none : (v : List ℕ) (at : ℕ) → has 10 10 v ≡ false → at + length v ≡ since at v
 since-none [] at h = omega arith
