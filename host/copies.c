@@ -1,7 +1,7 @@
 /* What the library copies for each kind of token, so that a lost inlining shows: the calls of memcpy, memmove and memset and their bytes are counted, since
  * these are the program's own.
  *
- *     copies [MOST]        ends with 1 if a token of some kind has more than MOST bytes copied or filled (9,000) beyond its own
+ *     copies [MOST]        ends with 1 if a token of some kind has more than MOST bytes copied or filled (6,000) beyond its own
  *
  * For each kind a sheet of many such tokens is laid out, and an empty one with the same buffer; what the first has more is divided by the tokens. Copies
  * that the compiler writes out in line are not seen: they are short. */
@@ -96,7 +96,7 @@ static double each(uint64_t with, uint64_t without, size_t n)
 
 int main(int argc, char **argv)
 {
-    double most = argc > 1 ? strtod(argv[1], NULL) : 9000, worst = 0;
+    double most = argc > 1 ? strtod(argv[1], NULL) : 6000, worst = 0;
     lay_out(0);
     struct count empty_copied = copied, empty_filled = filled;
     printf("an empty sheet and a buffer of %d: %" PRIu64 " copies of %" PRIu64 " bytes, %" PRIu64 " fills of %" PRIu64 " bytes\n", (int)ROOM, copied.calls,

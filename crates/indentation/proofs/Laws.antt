@@ -16,7 +16,7 @@ use Rattle.rules.specs.declared.IndentType.{IndentType}
 use Rattle.rules.specs.declared.IndentType.the-variants.{Top, Block, FoldedBlock}
 use Rattle.rules.specs.declared.SpanInfo.{SpanInfo}
 use Rattle.rules.specs.Base.{if_then_else_, when, full}
-use Rattle.rules.specs.Indentation.{Indentation, PreviousTokens, noIndentation, markReserved, markTopLevel, increaseTopLevel, increaseBlockLevel, decreaseTopLevel, popTop, decreaseBlockLevel, popBlock, setPreviousReserved, setPreviousTopLevel, lastTopLevel, lastReserved, previousReserved, previousTopLevelReserved, unfolded, indentLevel, span, noPrevious as noneBefore}
+use Rattle.rules.specs.Indentation.{Indentation, PreviousTokens, noIndentation, isSingle, asked, markReserved, markTopLevel, increaseTopLevel, increaseBlockLevel, decreaseTopLevel, popTop, decreaseBlockLevel, popBlock, setPreviousReserved, setPreviousTopLevel, lastTopLevel, lastReserved, previousReserved, previousTopLevelReserved, unfolded, indentLevel, span, noPrevious as noneBefore}
 use Rattle.stacks.specs.Stack.{stack, Kept, withinOf}
 use Rattle.stacks.specs.Laws.{length-stack, stack-push, stack-put, stack-pop, stack-popped, kept-push, kept-put, kept-pop, every-set, kept-none, every-same, same-or, left-of, right-of, unless-both, tail-map}
 use Rattle.indentation.specs.declared.Indentation.{Indentation as Code}
@@ -66,6 +66,14 @@ pub by-token : (w : ℕ) → (w ≡ 0 → ⊥) → some (w - 1) ≡ wordOf w
 unfolding wordOf
 by-token zero z = absurd (z refl)
 by-token (suc n) z = let e : suc n - 1 ≡ n = omega arith in rw e
+
+pub by-many-blocks : (sp : SpanInfo) → 2 < sp .blocks → false ≡ isSingle sp
+unfolding isSingle
+by-many-blocks sp h = rw (lt-leb _ _ h)
+
+pub by-few-blocks : (sp : SpanInfo) → sp .blocks ≤ 2 → eqb (sp .arguments) 1 ≡ isSingle sp
+unfolding isSingle
+by-few-blocks sp h = rw (le-leb _ _ h)
 
 pub by-untold : (m : ℕ) (sp : SpanInfo) → m ≡ 0 → none ≡ topOf m sp
 unfolding topOf
@@ -153,14 +161,14 @@ top-skips d h = go (d .indentTypes) h
 
 -- ---- previous words
 
--- the span that was put there
-span-back : (w : ℕ) (sp : SpanInfo) → topOf (topLevelAfter w sp .marks) (topSpan (topLevelAfter w sp)) ≡ some sp
-unfolding marksOf topOf
-span-back w sp = go (sp .«newline_before») (sp .«newline_after»)
+-- what is asked of the span that was put there
+span-back : (w : ℕ) (sp : SpanInfo) → topOf (topLevelAfter w sp .marks) (topSpan (topLevelAfter w sp)) ≡ some (asked sp)
+unfolding marksOf topOf asked
+span-back w sp = go (isSingle sp) (sp .«newline_after»)
   where
     go : (b d : Bool)
-        → topOf (marksOf b d) (topSpan (entry sp w (marksOf b d)))
-        ≡ some (record { «full_span» = sp .«full_span»; blocks = sp .blocks; «newline_before» = b; «newline_after» = d; arguments = sp .arguments })
+        → topOf (marksOf b d) (topSpan (entry (sp .«full_span») w (marksOf b d)))
+        ≡ some (record { «full_span» = sp .«full_span»; blocks = 0; «newline_before» = false; «newline_after» = d; arguments = (if b then 1 else 0) })
     go false false = refl
     go true false = refl
     go false true = refl
@@ -170,9 +178,17 @@ told-none : Told noPrevious
 unfolding entryFor topOf
 told-none = refl
 
+asked-single : (sp : SpanInfo) → isSingle (asked sp) ≡ isSingle sp
+unfolding asked isSingle
+asked-single sp = go (isSingle sp)
+  where
+    go : (b : Bool) → (true && eqb (if b then 1 else 0) 1) ≡ b
+    go true = refl
+    go false = refl
+
 told-top-level : (w : ℕ) (sp : SpanInfo) → Told (topLevelAfter w sp)
-unfolding entryFor
-told-top-level w sp = rw (span-back w sp)
+unfolding entryFor asked
+told-top-level w sp = rw (span-back w sp, asked-single sp)
 
 told-reserved : (p : Previous) (t : ℕ) → Told p → Told (reservedAfter p t)
 unfolding entryFor
@@ -186,7 +202,7 @@ after-reserved : (p : Previous) (t : ℕ) → previousOf (reservedAfter p t) ≡
 unfolding previousOf wordOf
 after-reserved p t = rw add-one
 
-after-top-level : (w : ℕ) (sp : SpanInfo) → previousOf (topLevelAfter w sp) ≡ record { topLevelReserved = some sp; reserved = wordOf w }
+after-top-level : (w : ℕ) (sp : SpanInfo) → previousOf (topLevelAfter w sp) ≡ record { topLevelReserved = some (asked sp); reserved = wordOf w }
 unfolding previousOf
 after-top-level w sp = rw (span-back w sp)
 

@@ -9,7 +9,8 @@ use lib.ListN.{getD}
 use Rattle.rules.specs.declared.IndentType.{IndentType}
 use Rattle.rules.specs.declared.IndentType.the-variants.{Top, Block, FoldedBlock}
 use Rattle.rules.specs.declared.SpanInfo.{SpanInfo}
-use Rattle.rules.specs.Indentation.{Indentation, PreviousTokens, Closed, unfolded}
+use Rattle.rules.specs.Base.{if_then_else_}
+use Rattle.rules.specs.Indentation.{isSingle, Indentation, PreviousTokens, Closed, unfolded}
 use Rattle.stacks.specs.Stack.{stack, Kept}
 use Rattle.indentation.specs.declared.Previous.{Previous}
 use Rattle.indentation.specs.declared.Indentation.{Indentation as Code}
@@ -35,7 +36,7 @@ unfoldable pub wordOf : ℕ → Option ℕ
 wordOf zero = none
 wordOf (suc n) = some n
 
--- the marks of a top-level word: whether its span has a newline before, and one after
+-- the marks of a top-level word: whether its span is single, and whether it has a newline after
 unfoldable pub marksOf : Bool → Bool → ℕ
 marksOf false false = 1
 marksOf true false = 2
@@ -44,7 +45,7 @@ marksOf true true = 4
 
 -- the span that an entry's numbers tell
 abbrev pub topSpan : Previous → SpanInfo
-topSpan p = record { «full_span» = p .«full_span»; blocks = p .blocks; «newline_before» = eqb (p .marks % 2) 0; «newline_after» = ltb 2 (p .marks); arguments = p .arguments }
+topSpan p = record { «full_span» = p .«full_span»; blocks = 0; «newline_before» = false; «newline_after» = ltb 2 (p .marks); arguments = (if eqb (p .marks % 2) 0 then 1 else 0) }
 
 -- there is one where there are marks
 unfoldable pub topOf : ℕ → SpanInfo → Option SpanInfo
@@ -57,21 +58,21 @@ previousOf p = record { topLevelReserved = topOf (p .marks) (topSpan p); reserve
 abbrev pub noSpan : SpanInfo
 noSpan = record { «full_span» = 0; blocks = 0; «newline_before» = false; «newline_after» = false; arguments = 0 }
 
-abbrev pub entry : SpanInfo → ℕ → ℕ → Previous
-entry sp word marks = record { «full_span» = sp .«full_span»; blocks = sp .blocks; arguments = sp .arguments; word = word; marks = marks }
+abbrev pub entry : ℕ → ℕ → ℕ → Previous
+entry full word marks = record { «full_span» = full; word = word; marks = marks }
 
 abbrev pub noPrevious : Previous
-noPrevious = entry noSpan 0 0
+noPrevious = entry 0 0 0
 
 abbrev pub reservedAfter : Previous → ℕ → Previous
-reservedAfter p token = entry (topSpan p) (token + 1) (p .marks)
+reservedAfter p token = entry (p .«full_span») (token + 1) (p .marks)
 
 abbrev pub topLevelAfter : ℕ → SpanInfo → Previous
-topLevelAfter word sp = entry sp word (marksOf (sp .«newline_before») (sp .«newline_after»))
+topLevelAfter word sp = entry (sp .«full_span») word (marksOf (isSingle sp) (sp .«newline_after»))
 
 -- the one entry for a span, or none, and a word
 unfoldable pub entryFor : Option SpanInfo → ℕ → Previous
-entryFor none word = entry noSpan word 0
+entryFor none word = entry 0 word 0
 entryFor (some sp) word = topLevelAfter word sp
 
 unfoldable pub typesOf : Code → List IndentType

@@ -3,7 +3,7 @@ ghost use mathlib.Core.Path.{_≡_};
 ghost use mathlib.Core.Bool.{false};
 ghost use Prim.Native.Nat.{_+_, _-_, _≤_, _<_};
 ghost use lib.Dec.{eqb};
-ghost use Rattle.rules.specs.Indentation.{noIndentation, indentLevel, increaseTopLevel, increaseBlockLevel, decreaseTopLevel, decreaseBlockLevel, setPreviousReserved, setPreviousTopLevel, previousTopLevelReserved, span as spanOf};
+ghost use Rattle.rules.specs.Indentation.{isSingle, noIndentation, indentLevel, increaseTopLevel, increaseBlockLevel, decreaseTopLevel, decreaseBlockLevel, setPreviousReserved, setPreviousTopLevel, previousTopLevelReserved, span as spanOf};
 ghost use Rattle.rules.specs.Base.{if_then_else_, when, full};
 ghost use Rattle.indentation.specs.Of.{indentationOf, typesOf, noPrevious, endsTop, kindFor, wordOf, marksOf, topSpan, topOf, reservedAfter, topLevelAfter, topIn, lastOf, wordIn, spanIn, Clean, Stands, StandsClosed};
 use rules::SpanInfo;
@@ -14,13 +14,11 @@ use stacks::less_if;
 use stacks::more_if;
 use stacks::within;
 
-// The last top-level word's span, and the last reserved word: its token's number and one more, 0 where there is none.
-// Marks: 0 where there is no top-level word, else 1, one more where its span has a newline before, two more where it has one after.
-// Flat numbers: an array of them has no gaps, so it is filled and copied as bytes.
+// What is asked of the last top-level word's span, and the last reserved word: its token's number and one more, 0 where there is none.
+// Marks: 0 where there is no top-level word, else 1, one more where its span is single, two more where it has a newline after.
+// Flat numbers: an array of them has no gaps, so it is filled and copied as bytes; the fewer they are, the less is copied.
 pub struct Previous {
     pub full_span: u32,
-    pub blocks: u16,
-    pub arguments: u16,
     pub word: u16,
     pub marks: u16,
 }
@@ -60,8 +58,6 @@ fn no_previous() -> Previous
 {
     Previous {
         full_span: 0,
-        blocks: 0,
-        arguments: 0,
         word: 0,
         marks: 0,
     }
@@ -116,17 +112,24 @@ fn reserved_after(last: Previous, token: u16) -> Previous
 {
     Previous {
         full_span: last.full_span,
-        blocks: last.blocks,
-        arguments: last.arguments,
         word: token + 1,
         marks: last.marks,
     }
 }
 
-fn marks_of(before: bool, after: bool) -> u16
-    ensures { λ r. ⌜ r ≡ marksOf before after ⌝ }
+fn is_single(span: SpanInfo) -> bool
+    ensures { λ r. ⌜ r ≡ isSingle span ⌝ }
 {
-    if before {
+    if 2 < span.blocks {
+        return false;
+    }
+    span.arguments == 1
+}
+
+fn marks_of(single: bool, after: bool) -> u16
+    ensures { λ r. ⌜ r ≡ marksOf single after ⌝ }
+{
+    if single {
         if after {
             return 4;
         }
@@ -143,11 +146,15 @@ fn top_level_after(word: u16, span: SpanInfo) -> Previous
 {
     Previous {
         full_span: span.full_span,
-        blocks: span.blocks,
-        arguments: span.arguments,
         word,
-        marks: marks_of(span.newline_before, span.newline_after),
+        marks: marks_of(is_single(span), span.newline_after),
     }
+}
+
+fn one_if(b: bool) -> u16
+    ensures { λ r. ⌜ r ≡ (if b then 1 else 0) ⌝ }
+{
+    if b { 1 } else { 0 }
 }
 
 impl Previous {
@@ -170,10 +177,10 @@ impl Previous {
         }
         let span = SpanInfo {
             full_span: self.full_span,
-            blocks: self.blocks,
-            newline_before: m % 2 == 0,
+            blocks: 0,
+            newline_before: false,
             newline_after: 2 < m,
-            arguments: self.arguments,
+            arguments: one_if(m % 2 == 0),
         };
         TopLevel::Span(span)
     }

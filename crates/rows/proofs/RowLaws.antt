@@ -16,7 +16,7 @@ use Rattle.rows.specs.Listing.{startAt, lenAt, withSpan, entryOf, rowOf,
 use Rattle.rows.specs.Reads.{length-rows, length-in}
 use Rattle.rows.specs.Back.{clip-rows}
 use Rattle.rows.specs.Order.{order-before, clip-same, clips-same}
-use Rattle.rows.proofs.NumberLaws.{ends-in, ends-over, sum-back}
+use Rattle.rows.proofs.NumberLaws.{sum-back}
 use Rattle.rows.proofs.WalkLaws.{set-append-add, moved, span-put, due, Left, walk-begins, walk-ends, row, one-more, in-list, start-is, len-is, walk-on}
 
 -- ---- clip
@@ -35,7 +35,11 @@ module _ (d₀ : List ℕ) (count low : ℕ) where
   pub clip-ends : (d : List ℕ) (i : ℕ) → Clipping d i → i ≤ 0 → d ≡ due (clip low) d₀ count
   clip-ends d i c h = walk-ends (clip low) d₀ count d i (omega arith) (c .left)
 
-  module _ (d : List ℕ) (i at : ℕ) (c : Clipping d i) (h : 0 < i) (ea : at ≡ 5 * (i - 1)) (s : Span) (es : s .start ≡ startAt d at) (el : s .len ≡ lenAt d at) (b : Bool) (hb : b ≡ leb (s .start + s .len) low) where
+  -- the rows that are left are as they shall be
+  done : (d : List ℕ) (i : ℕ) → Left (clip low) d₀ count d i → map (clip low) (rowsIn i d₀) ≡ rowsIn i d₀ → d ≡ due (clip low) d₀ count
+  done d i l m = l .here ∙ sym (l .whole ∙ ap (λ (rs : List Row). rowsWords rs ++ l .rest) m)
+
+  module _ (d : List ℕ) (i at : ℕ) (c : Clipping d i) (h : 0 < i) (ea : at ≡ 5 * (i - 1)) (s : Span) (es : s .start ≡ startAt d at) (el : s .len ≡ lenAt d at) where
     abbrev here : Row
     here = rowAt d₀ (5 * (i - 1))
 
@@ -48,38 +52,41 @@ module _ (d₀ : List ℕ) (count low : ℕ) where
     in-order : InOrder (here ∷ rowsIn (i - 1) d₀)
     in-order = rw (one-more (clip low) d₀ count d i at (c .left) h ea) at (c .order)
 
-    -- it and all before it end at or below
-    stays : here .start + here .len ≤ low → map (clip low) (here ∷ rowsIn (i - 1) d₀) ≡ here ∷ rowsIn (i - 1) d₀
+    -- those before a row that starts at or below end there
+    before-same : s .start ≤ low → map (clip low) (rowsIn (i - 1) d₀) ≡ rowsIn (i - 1) d₀
     unfolding InOrder
-    stays e = rw (clip-same low here e) (ap (λ (rs : List Row). here ∷ rs) (clips-same low (here .start) (rowsIn (i - 1) d₀) in-order (omega arith)))
+    before-same e = let x = start-here in clips-same low (here .start) (rowsIn (i - 1) d₀) in-order (omega arith)
 
-    pub clip-stops : b ≡ true → d ≡ due (clip low) d₀ count
-    clip-stops t =
-        let k : s .start + s .len ≤ low = ends-in (s .start) (s .len) low b hb t in
+    pub clip-stops : s .start ≤ low → s .len ≤ low - s .start → d ≡ due (clip low) d₀ count
+    clip-stops b e =
         let x = start-here in
         let y = len-here in
-        let e : here .start + here .len ≤ low = omega arith in
+        let k : here .start + here .len ≤ low = omega arith in
         let o = one-more (clip low) d₀ count d i at (c .left) h ea in
-        let m : map (clip low) (rowsIn i d₀) ≡ rowsIn i d₀ = ap (map (clip low)) o ∙ stays e ∙ sym o in
-        c .left .here ∙ sym (c .left .whole ∙ ap (λ (rs : List Row). rowsWords rs ++ c .left .rest) m)
+        let m : map (clip low) (here ∷ rowsIn (i - 1) d₀) ≡ here ∷ rowsIn (i - 1) d₀ = rw (clip-same low here k, before-same b) in
+        done d i (c .left) (ap (map (clip low)) o ∙ m ∙ sym o)
 
-    clipped : (start : ℕ) → b ≡ false → start ≡ min low (s .start) → clip low here ≡ moved here start (low - start)
+    clipped : (start : ℕ) → low < s .start + s .len → start ≡ min low (s .start) → clip low here ≡ moved here start (low - start)
     unfolding clip between
-    clipped start f e =
-        let k : low < s .start + s .len = ends-over (s .start) (s .len) low b hb f in
+    clipped start k e =
         let x = start-here in
         let y = len-here in
         let p : min low (here .start) ≡ start = omega arith in
         let q : min low (here .start + here .len) ≡ low = omega arith in rw (p, q)
 
-    pub clip-fits : (start : ℕ) → b ≡ false → start ≡ min low (s .start) → s .len < 2 ^ 32 → low - start < 2 ^ 32
-    clip-fits start f e l = let k : low < s .start + s .len = ends-over (s .start) (s .len) low b hb f in omega arith
-
-    pub clip-on : (start : ℕ) (d′ : List ℕ) → b ≡ false → start ≡ min low (s .start) → d′ ≡ withSpan d at start (low - start) → length d′ ≡ length d → Clipping d′ (i - 1)
-    clip-on start d′ f e w n = record {
-      left = walk-on (clip low) d₀ count d i at (c .left) h ea d′ start (low - start) w (clipped start f e) n;
+    clip-on : (start n : ℕ) (d′ : List ℕ) → low < s .start + s .len → start ≡ min low (s .start) → n ≡ low - start → d′ ≡ withSpan d at start n → length d′ ≡ length d → Clipping d′ (i - 1)
+    clip-on start n d′ k e en w l = record {
+      left = walk-on (clip low) d₀ count d i at (c .left) h ea d′ start (low - start) (rw en at w) (clipped start k e) l;
       order = order-before here (rowsIn (i - 1) d₀) in-order;
     }
+
+    -- a row that starts past the cut has none of its bytes left
+    pub clip-empties : (d′ : List ℕ) → low < s .start → d′ ≡ withSpan d at low 0 → length d′ ≡ length d → Clipping d′ (i - 1)
+    clip-empties d′ k w l = clip-on low 0 d′ (omega arith) (omega arith) (omega arith) w l
+
+    -- the row that the cut goes through is the last that changes
+    pub clip-cuts : (n : ℕ) (d′ : List ℕ) → s .start ≤ low → n < s .len → n ≡ low - s .start → d′ ≡ withSpan d at (s .start) n → length d′ ≡ length d → d′ ≡ due (clip low) d₀ count
+    clip-cuts n d′ b k e w l = done d′ (i - 1) (clip-on (s .start) n d′ (omega arith) (omega arith) e w l .left) (before-same b)
 
 -- ---- the words of one row
 

@@ -102,7 +102,7 @@ pub fn clear(rows: &mut [u32])
     }
 }
 
-// From the last row back to the first that ends at or below: those before it do too.
+// From the last row back to the first that starts at or below: those before it end where it starts.
 pub fn clip(rows: &mut [u32], count: usize, low: usize)
     requires { ⌜ Listed (now rows) count ⌝ }
     ensures { λ r. ⌜ now (rows .exit) ≡ listing (length (now (rows .entry))) (map (clipTo low) (rowsIn count (now (rows .entry)))) ⌝ }
@@ -111,11 +111,14 @@ pub fn clip(rows: &mut [u32], count: usize, low: usize)
     while 0 < i {
         let at = 5 * (i - 1);
         let s = span_at(rows, at);
-        if ends_by(s, low) {
+        if s.start <= low {
+            let left = low - s.start;
+            if left < s.len {
+                put_span(rows, at, s.start, left as u32);
+            }
             return;
         }
-        let start = least(low, s.start);
-        put_span(rows, at, start, (low - start) as u32);
+        put_span(rows, at, low, 0);
         i -= 1;
     }
 }

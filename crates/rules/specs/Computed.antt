@@ -9,7 +9,7 @@ use Rattle.rules.specs.Sheet.{bodyPart, listOf, indentFrom, caseFrom, in
 use Rattle.rules.specs.Text.{indentOf, trimmed, newLine, closingLine}
 use Rattle.rules.specs.Span.{sortIn, scan, topLevelTokensInfo}
 use Rattle.rules.specs.InlineBlock.{buildFrom, buildInfo, isInlineBlock, isActive, curLen, beginsInline, beginIfPossible}
-use Rattle.rules.specs.Indentation.{noIndentation, noPrevious, unfolded, indentLevel, increaseTopLevel as increaseTop, increaseBlockLevel, popTop, decreaseTopLevel, popBlock, decreaseBlockLevel, markReserved, markTopLevel, setPreviousReserved, setPreviousTopLevel, lastReserved, lastTopLevel, previousReserved, previousTopLevelReserved, span}
+use Rattle.rules.specs.Indentation.{noIndentation, noPrevious, unfolded, indentLevel, increaseTopLevel as increaseTop, increaseBlockLevel, popTop, decreaseTopLevel, popBlock, decreaseBlockLevel, markReserved, isSingle, asked, markTopLevel, setPreviousReserved, setPreviousTopLevel, lastReserved, lastTopLevel, previousReserved, previousTopLevelReserved, span}
 use Rattle.rules.specs.Params.{byName, byNumber, byIndex, source, valueIn, valueAt, valueFrom, entry, get, advances, isRefused, offends}
 use Rattle.rules.specs.Switch.{_↪_, fmtTable, movedBy, movedTo, moved, readAll, answered as switchAnswered, checkFmtOff, switchIn, turnBy, turnOf, switchAfter, switchedOn}
 use Rattle.rules.specs.State.{start, onText, onIndentation, onInlineBlock, onBlockLevel, onIndex, refuseIf, pushStr, push, trimSpacesEnd, trimAllSpacesEnd, oneBlank, getIndent, addNewLineInner, addNewLine, closeLineComment, increaseTopLevel}
@@ -38,7 +38,7 @@ unfolding
     sortIn scan topLevelTokensInfo
     buildFrom buildInfo isInlineBlock isActive curLen beginsInline full beginIfPossible
     noIndentation noPrevious unfolded indentLevel increaseTop increaseBlockLevel popTop decreaseTopLevel popBlock decreaseBlockLevel markReserved
-    markTopLevel setPreviousReserved setPreviousTopLevel lastReserved lastTopLevel previousReserved previousTopLevelReserved span
+    isSingle asked markTopLevel setPreviousReserved setPreviousTopLevel lastReserved lastTopLevel previousReserved previousTopLevelReserved span
     byName byNumber byIndex source valueIn valueAt valueFrom entry get advances isRefused offends
     _↪_ fmtTable movedBy movedTo moved readAll switchAnswered checkFmtOff switchIn turnBy turnOf switchAfter switchedOn
     choose when

@@ -1,16 +1,17 @@
 -- indentation.rs: the stacks of indent kinds, spans and previous words, as lists with the top first.
 -- W is what stands for a word: its value in these rules, its place in the code.
-use mathlib.Core.Bool.{Bool, true, false}
+use mathlib.Core.Bool.{Bool, true, false, _&&_}
 use mathlib.Core.Option.{Option, none, some}
 use mathlib.Core.List.{List, [], _∷_, tail}
 use Prim.Native.Nat.{ℕ, suc, _-_}
+use lib.Dec.{eqb, leb}
 use lib.ListN.{getD}
 use Rattle.rules.specs.declared.IndentType.{IndentType}
 use Rattle.rules.specs.declared.IndentType.the-variants.{Top, Block, FoldedBlock}
 use Rattle.rules.specs.declared.SpanInfo.{SpanInfo}
 use Rattle.rules.specs.Base.{if_then_else_, full}
 
--- the last top-level word's span, and the last reserved word
+-- what is asked of the last top-level word's span, and the last reserved word
 pub record PreviousTokens (W : Type 0) : Type 0 where
   pub topLevelReserved : Option SpanInfo
   pub reserved : Option W
@@ -75,13 +76,21 @@ decreaseBlockLevel i = popBlock (i .indentTypes) (i .topLevelSpan) (i .previous)
 
 -- ---- previous words
 
+-- one argument, and two blocks at most
+unfoldable pub isSingle : SpanInfo → Bool
+isSingle sp = leb (sp .blocks) 2 && eqb (sp .arguments) 1
+
+-- what later tokens ask of a span: its length, whether a new line follows, whether it is single (specs/Asked.antt)
+unfoldable pub asked : SpanInfo → SpanInfo
+asked sp = record { «full_span» = sp .«full_span»; blocks = 0; «newline_before» = false; «newline_after» = sp .«newline_after»; arguments = (if isSingle sp then 1 else 0) }
+
 unfoldable pub markReserved : {W : Type 0} → W → List (PreviousTokens W) → List (PreviousTokens W)
 markReserved v [] = record { topLevelReserved = none; reserved = some v } ∷ []
 markReserved v (p ∷ ps) = record { topLevelReserved = p .topLevelReserved; reserved = some v } ∷ ps
 
 unfoldable pub markTopLevel : {W : Type 0} → W → SpanInfo → List (PreviousTokens W) → List (PreviousTokens W)
-markTopLevel v sp [] = record { topLevelReserved = some sp; reserved = some v } ∷ []
-markTopLevel v sp (p ∷ ps) = record { topLevelReserved = some sp; reserved = p .reserved } ∷ ps
+markTopLevel v sp [] = record { topLevelReserved = some (asked sp); reserved = some v } ∷ []
+markTopLevel v sp (p ∷ ps) = record { topLevelReserved = some (asked sp); reserved = p .reserved } ∷ ps
 
 unfoldable pub setPreviousReserved : {W : Type 0} → W → Indentation W → Indentation W
 setPreviousReserved v i = record { indentTypes = i .indentTypes; topLevelSpan = i .topLevelSpan; previous = markReserved v (i .previous) }

@@ -12,6 +12,7 @@ pub mod Params
 pub mod Switch
 pub mod State
 pub mod Formatter
+pub mod Asked
 pub mod Answer
 pub mod Rows
 pub mod Compacted

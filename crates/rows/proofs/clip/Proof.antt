@@ -1,10 +1,10 @@
-use lib.ListN.{length}
+use borrow.Author.Needs.{needs}
 use native.Mathlib.Omega.{arith}
 use denote.Ref.{now}
-use borrow.Author.Needs.{needs}
+use lib.ListN.{length}
+use mathlib.Core.Path.{_≡_, refl, _∙_}
 use Prim.Native.Nat.{_-_, _*_}
-use mathlib.Core.Path.{_≡_, refl}
-use Rattle.rows.proofs.RowLaws.{Clipping, clip-begins, clip-in, clip-ends, clip-stops, clip-fits, clip-on}
+use Rattle.rows.proofs.RowLaws.{Clipping, clip-begins, clip-in, clip-ends, clip-stops, clip-empties, clip-cuts}
 use Rattle.rows.proofs.clip.Statement.{statement}
 use Rattle.rows.proofs.clip.Tie as tie
 
@@ -30,37 +30,38 @@ mul-at c =
 span-at-requires : tie.Need-span-at-requires Inv-loop μ-loop
 span-at-requires c κs = search (needs, clip-in)
 
-ends-by-requires : tie.Need-ends-by-requires Inv-loop μ-loop
-ends-by-requires c κs = search needs
-
-same-length : tie.Need-same-length Inv-loop μ-loop
-same-length c = c .before .before .before .before .before .loop .inv .left .room
-
-returns : tie.Need-returns Inv-loop μ-loop
-returns c =
-    let l = c .before .before .before .before .before .loop in
-    let a = c .before .before .before .before .before .before .before .args in
-    let s = c .before .before .span-at in
-    clip-stops (now (a .rows)) (a .count) (a .low) (l .rows) (l .i) (5 * (l .i - 1)) (l .inv) (c .before .before .before .before .loop-test .taken) refl (s .result) (s .ensures .0) (s .ensures .1) (c .before .ends-by .result) (c .before .ends-by .ensures) (c .if1 .taken)
-
-least-requires : tie.Need-least-requires Inv-loop μ-loop
-least-requires c κs = search needs
-
-sub-put-span : tie.Need-sub-put-span Inv-loop μ-loop
-sub-put-span c = let e = c .before .least .ensures in omega arith
-
 cast-put-span : tie.Need-cast-put-span Inv-loop μ-loop
 cast-put-span c =
-    let l = c .before .before .before .before .before .before .before .loop in
-    let a = c .before .before .before .before .before .before .before .before .before .args in
-    let s = c .before .before .before .before .span-at in
-    let b = c .before .before .before .ends-by in
-    record {
-      fits = clip-fits (now (a .rows)) (a .count) (a .low) (l .rows) (l .i) (5 * (l .i - 1)) (l .inv) (c .before .before .before .before .before .before .loop-test .taken) refl (s .result) (s .ensures .0) (s .ensures .1) (b .result) (b .ensures) (c .before .least .result) (c .before .before .if1 .left) (c .before .least .ensures) (s .ensures .2);
-    }
+    let few = c .before .before .before .before .before .before .span-at .ensures .2 in
+    let here = c .before .if2 .taken in
+    record { fits = omega arith }
 
 put-span-requires : tie.Need-put-span-requires Inv-loop μ-loop
 put-span-requires c κs = search (needs, clip-in)
+
+same-length : tie.Need-same-length Inv-loop μ-loop
+same-length c = c .before .before .put-span .kept .0 ∙ c .before .before .before .before .before .before .before .before .before .before .before .before .loop .inv .left .room
+
+returns : tie.Need-returns Inv-loop μ-loop
+returns c =
+    let l = c .before .before .before .before .before .before .before .before .before .before .before .before .loop in
+    let a = c .before .before .before .before .before .before .before .before .before .before .before .before .before .before .args in
+    let s = c .before .before .before .before .before .before .before .before .before .span-at in
+    let p = c .before .before .put-span in
+    clip-cuts (now (a .rows)) (a .count) (a .low) (l .rows) (l .i) (5 * (l .i - 1)) (l .inv) (c .before .before .before .before .before .before .before .before .before .before .before .loop-test .taken) refl (s .result) (s .ensures .0) (s .ensures .1) _ (p .last .0) (c .before .before .before .before .before .before .before .if1 .taken) (c .before .before .before .before .if2 .taken) refl (p .ensures) (p .kept .0)
+
+same-length-2 : tie.Need-same-length-2 Inv-loop μ-loop
+same-length-2 c = c .before .before .before .before .before .before .before .before .loop .inv .left .room
+
+returns-2 : tie.Need-returns-2 Inv-loop μ-loop
+returns-2 c =
+    let l = c .before .before .before .before .before .before .before .before .loop in
+    let a = c .before .before .before .before .before .before .before .before .before .before .args in
+    let s = c .before .before .before .before .before .span-at in
+    clip-stops (now (a .rows)) (a .count) (a .low) (l .rows) (l .i) (5 * (l .i - 1)) (l .inv) (c .before .before .before .before .before .before .before .loop-test .taken) refl (s .result) (s .ensures .0) (s .ensures .1) (c .before .before .before .if1 .taken) (c .if2 .left)
+
+put-span-requires-2 : tie.Need-put-span-requires-2 Inv-loop μ-loop
+put-span-requires-2 c κs = search (needs, clip-in)
 
 sub-i : tie.Need-sub-i Inv-loop μ-loop
 sub-i c = search needs
@@ -70,18 +71,17 @@ loop-less c = search needs
 
 loop-again : tie.Need-loop-again Inv-loop μ-loop
 loop-again c =
-    let b = c .before .before .before .before .before in
-    let l = c .before .before .before .before .before .before .before .before .before .before .loop in
-    let a = c .before .before .before .before .before .before .before .before .before .before .before .before .args in
-    let s = c .before .before .before .before .before .before .before .span-at in
-    let p = c .before .before .put-span in
-    clip-on (now (a .rows)) (a .count) (a .low) (l .rows) (l .i) (5 * (l .i - 1)) (l .inv) (c .before .before .before .before .before .before .before .before .before .loop-test .taken) refl (s .result) (s .ensures .0) (s .ensures .1) (c .before .before .before .before .before .before .ends-by .result) (c .before .before .before .before .before .before .ends-by .ensures) (c .before .before .before .before .least .result) (p .last .0) (b .if1 .left) (c .before .before .before .before .least .ensures) (p .ensures) (p .kept .0)
+    let l = c .before .before .before .before .before .before .before .before .before .loop in
+    let a = c .before .before .before .before .before .before .before .before .before .before .before .args in
+    let s = c .before .before .before .before .before .before .span-at in
+    let p = c .before .before .put-span2 in
+    clip-empties (now (a .rows)) (a .count) (a .low) (l .rows) (l .i) (5 * (l .i - 1)) (l .inv) (c .before .before .before .before .before .before .before .before .loop-test .taken) refl (s .result) (s .ensures .0) (s .ensures .1) (p .last .0) (c .before .before .before .before .if1 .left) (p .ensures) (p .kept .0)
 
-same-length-2 : tie.Need-same-length-2 Inv-loop μ-loop
-same-length-2 c = c .before .loop .inv .left .room
+same-length-3 : tie.Need-same-length-3 Inv-loop μ-loop
+same-length-3 c = c .before .loop .inv .left .room
 
-returns-2 : tie.Need-returns-2 Inv-loop μ-loop
-returns-2 c = search (needs, clip-ends)
+returns-3 : tie.Need-returns-3 Inv-loop μ-loop
+returns-3 c = search (needs, clip-ends)
 
 pub clip-spec : {M : Type 1} → statement M
 clip-spec =
@@ -93,15 +93,15 @@ clip-spec =
     sub-at
     mul-at
     span-at-requires
-    ends-by-requires
-    same-length
-    returns
-    least-requires
-    sub-put-span
     cast-put-span
     put-span-requires
+    same-length
+    returns
+    same-length-2
+    returns-2
+    put-span-requires-2
     sub-i
     loop-less
     loop-again
-    same-length-2
-    returns-2)
+    same-length-3
+    returns-3)

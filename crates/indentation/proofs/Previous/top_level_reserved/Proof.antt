@@ -8,9 +8,12 @@ returns : tie.Need-returns
 unfolding spanIn
 returns c = search (needs, by-untold)
 
+one-if-requires : tie.Need-one-if-requires
+one-if-requires c κs = search needs
+
 returns-2 : tie.Need-returns-2
 unfolding spanIn
-returns-2 c = search (needs, by-told)
+returns-2 c = rw (c .one-if .ensures) (by-told _ _ (c .before .if1 .left))
 
 pub top-level-reserved-spec : {M : Type 1} → statement M
-top-level-reserved-spec = tie.close (tie.spec returns returns-2)
+top-level-reserved-spec = tie.close (tie.spec returns one-if-requires returns-2)
