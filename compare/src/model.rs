@@ -132,12 +132,17 @@ pub fn listed(sheet: &[u8], room: usize, words: usize) -> Listed {
     Listed { answer, list: list(&rows, words) }
 }
 
+fn report(text: Vec<u8>) -> Answer {
+    let (lines, width) = lines_width(&text);
+    Answer::Laid { text, lines, width }
+}
+
 /// Width: the largest column reached on any line, a tab moving to the next multiple of 8 strictly
 /// above, every other byte by one.
-fn report(text: Vec<u8>) -> Answer {
+pub fn lines_width(text: &[u8]) -> (usize, usize) {
     let mut feeds = 0;
     let (mut width, mut column) = (0, 0);
-    for &byte in &text {
+    for &byte in text {
         feeds += usize::from(byte == b'\n');
         column = match byte {
             b'\n' => 0,
@@ -146,6 +151,5 @@ fn report(text: Vec<u8>) -> Answer {
         };
         width = width.max(column);
     }
-    let lines = if text.is_empty() { 0 } else { feeds + 1 };
-    Answer::Laid { text, lines, width }
+    (if text.is_empty() { 0 } else { feeds + 1 }, width)
 }

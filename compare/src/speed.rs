@@ -5,6 +5,7 @@ use std::panic;
 use std::time::{Duration, Instant};
 
 use crate::call;
+use crate::model;
 use crate::oracle::{self, Read};
 use crate::random::Dice;
 use crate::sheet::{Sheet, in_turn};
@@ -44,7 +45,7 @@ pub fn run(seed: u64, part: &str) -> bool {
     }
     println!("nanoseconds a sheet, the least of {ROUNDS} rounds over {SHEETS} sheets, seed {seed}");
     println!(
-        "shape                            tokens       call  Rust from bytes  format alone  to bytes  to format   a token"
+        "shape                            tokens       call  Rust from bytes  format alone  to bytes  to format   a token  with counts  to that"
     );
     for (shape, make) in SHAPES.into_iter().filter(|shape| shape.0.contains(part)) {
         for size in SIZES {
@@ -99,11 +100,19 @@ fn row(shape: &str, size: usize, sheets: &[Vec<u8>]) {
     };
     let mut whole = || sheets.iter().for_each(|bytes| drop(black_box(read(bytes).format())));
     let mut alone = || reads.iter().for_each(|read| drop(black_box(read.format())));
-    let times = least([&mut call, &mut whole, &mut alone]);
-    let [call, whole, alone] = times.map(|time| time / sheets.len() as f64);
+    // The two numbers that a report has and the Rust does not give.
+    let mut counted = || {
+        for bytes in sheets {
+            let text = read(bytes).format();
+            black_box(model::lines_width(text.as_bytes()));
+        }
+    };
+    let times = least([&mut call, &mut whole, &mut alone, &mut counted]);
+    let [call, whole, alone, counted] = times.map(|time| time / sheets.len() as f64);
     let (to_whole, to_alone, token) = (call / whole, call / alone, call / size as f64);
     println!(
-        "{shape:32} {size:6} {call:10.0} {whole:16.0} {alone:13.0} {to_whole:9.2} {to_alone:10.2} {token:9.1}"
+        "{shape:32} {size:6} {call:10.0} {whole:16.0} {alone:13.0} {to_whole:9.2} {to_alone:10.2} {token:9.1} {counted:12.0} {:8.2}",
+        call / counted
     );
 }
 
