@@ -15,13 +15,14 @@ const SIZES: [usize; 3] = [128, 512, 1024];
 
 type Shape = fn(&mut Dice, usize) -> Sheet;
 
-const SHAPES: [(&str, Shape); 9] = [
+const SHAPES: [(&str, Shape); 10] = [
     ("realistic", |dice, size| of(sized::usual(dice, size), 50)),
     ("40 deep", |_, size| of(nested(40, size, &[WORD_A, COMMA, SELECT, WORD_A]), 0)),
     ("120 deep", |_, size| of(nested(120, size, &[WORD_A, COMMA, SELECT, WORD_A]), 0)),
     ("top-level words, 40 deep", |_, size| of(nested(40, size, &[SELECT]), 0)),
     ("top-level words, 120 deep", |_, size| of(groups(size), 0)),
     ("one nest of 120", |_, size| of(nested(120, size, &[SELECT]), 0)),
+    ("one nest, eight words", |_, size| of(words_first(size), 0)),
     ("unmatched brackets", |_, size| of(unmatched(size), 0)),
     ("switched off", |_, size| of(switched_off(size), 0)),
     ("longest inline block", |_, size| of(nested(40, size, &[WORD_A, COMMA]), u32::MAX)),
@@ -56,6 +57,15 @@ fn groups(size: usize) -> Vec<Token> {
     tokens((0..size).map(|i| match i % 256 {
         0..120 => (OPEN, "("),
         120..136 => SELECT,
+        _ => (CLOSE, ")"),
+    }))
+}
+
+/// One nest of 120 that has top-level words at each size: eight of 128 tokens, and closing brackets only where there is room after them.
+fn words_first(size: usize) -> Vec<Token> {
+    tokens((0..size).map(|i| match i {
+        0..120 => (OPEN, "("),
+        120..904 => SELECT,
         _ => (CLOSE, ")"),
     }))
 }
