@@ -196,6 +196,11 @@ enum { LENGTH = sizeof QUERY / sizeof QUERY[0] };
 static void texts(void)
 {
     static const struct token open = {OPEN, "("}, nested[] = {{OPEN, "("}, {TOP_LEVEL, "SELECT"}};
+    /* long enough for every way that lines and width are counted; a tab is far on, and two stand close */
+    static char lines[9001];
+    for (size_t i = 0; i < sizeof lines - 1; i++)
+        lines[i] = i == 6000 || i > 8990 ? '\t' : i % 3 == 2 ? '\n' : 'a';
+    const struct token many = {WORD, lines};
     build(QUERY, LENGTH, 0);
     show("the Rust's head alone", 0);
     build(QUERY, LENGTH, 1);
@@ -209,6 +214,8 @@ static void texts(void)
     show("128 brackets within a line", 0);
     build(nested, 2, 64);
     show("64 brackets and 64 top-level words", 0);
+    build(&many, 1, 1);
+    show("a value of 3,000 lines", 0);
 }
 
 static void refusals(void)

@@ -1,19 +1,19 @@
 //! Values of many lines: short ones, with one about as long as the longest here and there, and runs of
-//! tabs. The call passes what cannot be the longest line many bytes at a time, in stretches of 16, 64,
-//! 192 and 4,032 bytes.
+//! tabs. The call passes what cannot be the longest line many bytes at a time, in stretches of 16, 192
+//! and 4,224 bytes, of which eight parts are looked at together.
 
 use super::Dice;
 use crate::sheet::*;
 
 /// Lengths about which the call goes another way.
-const MOST: [usize; 16] = [0, 1, 1, 2, 3, 3, 4, 6, 7, 8, 9, 15, 16, 17, 30, 70];
+const MOST: [usize; 20] = [0, 1, 1, 2, 3, 3, 4, 6, 7, 8, 9, 15, 16, 17, 30, 63, 70, 100, 126, 128];
 const SIZES: [usize; 8] = [20, 60, 75, 80, 140, 200, 400, 600];
-/// More than a stretch, where the sheet has room for it.
-const LONG: usize = 4100;
+/// More than two stretches, where the sheet has room for it.
+const LONG: usize = 9000;
 const FEW: usize = 16_000;
 
-fn line(dice: &mut Dice, length: usize) -> Vec<u8> {
-    let other = dice.pick(b"xxxx \r\t");
+fn line(dice: &mut Dice, length: usize, others: &[u8]) -> Vec<u8> {
+    let other = dice.pick(others);
     (0..length).map(|at| if at + 2 == length { other } else { b'x' }).collect()
 }
 
@@ -22,18 +22,23 @@ fn lines(dice: &mut Dice) -> Vec<u8> {
     lines_of(dice, size)
 }
 
-/// All of one length, or of any up to it, and some a little longer.
+/// All of one length, or of any up to it, and some a little longer; with many tabs, or with one or none.
 fn lines_of(dice: &mut Dice, size: usize) -> Vec<u8> {
-    let (most, steady) = (dice.pick(&MOST), dice.one_in(2));
+    let (most, steady, tabs) = (dice.pick(&MOST), dice.one_in(2), dice.one_in(2));
+    let others: &[u8] = if tabs { b"xxxx \r\t" } else { b"xxxx \r" };
     let mut value = Vec::new();
     while value.len() < size {
         let length = if steady { most } else { dice.below(most + 1) };
         let longer = if dice.one_in(30) { 1 + dice.below(2) } else { 0 };
-        value.extend(line(dice, length + longer));
+        value.extend(line(dice, length + longer, others));
         value.push(b'\n');
     }
     if dice.one_in(2) {
-        value.extend(line(dice, most));
+        value.extend(line(dice, most, others));
+    }
+    if !tabs && dice.one_in(2) {
+        let at = dice.below(value.len() + 1);
+        value.insert(at, b'\t');
     }
     value
 }
@@ -41,9 +46,9 @@ fn lines_of(dice: &mut Dice, size: usize) -> Vec<u8> {
 /// Tabs in a row, about 16 and 32 of them, after some letters.
 fn tabs(dice: &mut Dice) -> Vec<u8> {
     let letters = dice.below(18);
-    let mut value = line(dice, letters);
+    let mut value = line(dice, letters, b"x");
     value.resize(value.len() + dice.pick(&[7, 8, 15, 16, 17, 23, 24, 25, 40, 60]), b'\t');
-    value.extend(line(dice, 2));
+    value.extend(line(dice, 2, b"x"));
     value
 }
 

@@ -227,6 +227,16 @@ pub fn sheets() -> Vec<(String, Costly)> {
         "line feeds and a few tabs".into(),
         filled(&|at| if at % 8000 == 0 { b'\t' } else { b'\n' }),
     ));
+    let any = any_lines(&mut dice, 60);
+    for (name, each) in [("short lines, a few tabs", 8000), ("short lines, a tab in 100", 100)] {
+        sheets.push((name.into(), filled(&|at| if at % each == 0 { b'\t' } else { any[at] })));
+    }
+    let ends = |at: usize| at % 40 == 39;
+    let tab = |at: usize| if at % 10 == 0 { b'\t' } else { b'a' };
+    sheets.push((
+        "lines of 40 with tabs".into(),
+        filled(&|at| if ends(at) { b'\n' } else { tab(at) }),
+    ));
     let lines = Costly {
         body: b"\n x".iter().copied().cycle().take(LONG as usize).collect(),
         tokens: vec![token(BLOCK_COMMENT, 0, LONG); 64],

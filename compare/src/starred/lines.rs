@@ -1,6 +1,6 @@
-//! Texts of many lines, and of many tabs, whose lines and width are known. The call passes what cannot be the longest
-//! line many bytes at a time, and counts 4,032 bytes by columns only where a tab is among them: here the longest line,
-//! or a tab, stands where such a stretch begins or ends.
+//! Texts of many lines, and of many tabs, whose lines and width are known. The call counts 4,224 bytes at a time. What
+//! cannot be the longest line it passes, looking at eight parts of 512 bytes together, and a tab that stands far on costs
+//! its own line: here the longest line, or a tab, stands where such a stretch or part begins or ends.
 
 use super::{Case, ROOM, of};
 use crate::model::Answer;
@@ -33,10 +33,49 @@ fn after_tabs(letters: usize, n: usize, width: usize) -> Case {
     at("a run of tabs", "x".repeat(letters) + &"\t".repeat(n) + "y", 1, width)
 }
 
-/// Short lines up to byte 4,002, and so many letters, which go on in the next stretch.
+/// Short lines up to byte 4,194, and so many letters, which go on in the next stretch.
 fn into_the_next(letters: usize, rest: &str, lines: usize, width: usize) -> Case {
-    let value = "ab\n".repeat(1334) + &"y".repeat(letters) + rest;
-    at("a line in two stretches", value, 1334 + lines, width)
+    let value = "ab\n".repeat(1398) + &"y".repeat(letters) + rest;
+    at("a line in two stretches", value, 1398 + lines, width)
+}
+
+/// A line of `known` bytes, and one that is longer by a byte, starting so many bytes on, among line feeds.
+fn in_a_part(known: usize, on: usize) -> Case {
+    let feed = feeds(on - known);
+    let value = "a".repeat(known) + &feed + &"b".repeat(known + 1) + &feeds(9000 - on) + "c";
+    at("a longer line in a part", value, on - known + 9001 - on, known + 1)
+}
+
+/// About where one of the eight parts of the second stretch begins.
+fn parts() -> Vec<Case> {
+    let about = |known: usize| {
+        let begins = (0..=8).map(|part| 4224 + 512 * part);
+        begins.flat_map(move |at| {
+            [0, 1, known / 2, known, known + 1].map(|less| in_a_part(known, at - less))
+        })
+    };
+    [1, 6, 16, 63, 100, 127].into_iter().flat_map(about).collect()
+}
+
+/// So many lines of three bytes, a tab's line, and as many again; `widest` is one line more at the end.
+fn far_tab(count: usize, line: &str, widest: usize, width: usize) -> Case {
+    let short = "abc\n".repeat(count);
+    let value = short.clone() + line + "\n" + &short + &"z".repeat(widest);
+    at("a tab far on", value, 2 * count + 2, width)
+}
+
+fn far_tabs() -> Vec<Case> {
+    let counts = [16, 30, 31, 32, 33, 34, 300, 1054, 1055, 1056, 1057, 1100];
+    let about = |count| {
+        [
+            far_tab(count, "xy\tz", 5, 9),
+            far_tab(count, "xy\tz", 10, 10),
+            far_tab(count, "\t", 3, 8),
+            far_tab(count, &("x".repeat(130) + "\ty"), 3, 137),
+            far_tab(count, &("\t".to_owned() + &"x".repeat(130) + "\ty"), 3, 145),
+        ]
+    };
+    counts.into_iter().flat_map(about).collect()
 }
 
 /// The longest line, or the last but one, ends about where a stretch does.
@@ -61,9 +100,9 @@ fn stretches() -> Vec<Case> {
         at("a line in three stretches", "y".repeat(9000) + "\n" + &"z".repeat(8999), 2, 9000),
         at("the same after a tab", "x\t".to_owned() + &"y".repeat(9000) + "\nz", 2, 9008),
         at("one that ends with a tab", "x".to_owned() + &"y".repeat(9000) + "\tz", 1, 9009),
-        at("no line feed but the last", "y".repeat(8064) + "\nz", 2, 8064),
+        at("no line feed but the last", "y".repeat(8448) + "\nz", 2, 8448),
     ];
-    cases.extend((4029..=4034).chain(8062..=8066).flat_map(about_the_end));
+    cases.extend((4221..=4226).chain(8446..=8450).flat_map(about_the_end));
     cases
 }
 
@@ -98,5 +137,7 @@ pub fn sheets() -> Vec<Case> {
     cases.extend(lengths().flat_map(|n| [3, 8, 20].map(|count| after_lines(n, count, n + 1))));
     cases.extend([31, 32, 33, 63, 64, 65].map(|n| after_lines(n, 3, n + 1)));
     cases.extend(stretches());
+    cases.extend(parts());
+    cases.extend(far_tabs());
     cases
 }

@@ -2,12 +2,13 @@
 use mathlib.Core.Path.{_≡_, refl, sym, ap, _∙_}
 use mathlib.Core.Bool.{Bool, true, false, _||_}
 use mathlib.Core.List.{List, [], _∷_, _++_}
-use Prim.Native.Nat.{ℕ, zero, suc, _+_, _-_, _*_, _/_, _≤_, _<_, max}
+use Prim.Native.Nat.{ℕ, zero, suc, _+_, _-_, _*_, _/_, _%_, _^_, _≤_, _<_, max}
+use native.Mathlib.Nat.{mod-eq-of-lt}
 use native.Mathlib.Numerals.{add-one}
 use native.Mathlib.Omega.{arith}
+use lib.Bits.{bitOr, bitAnd, or-block, or-lt, or-add-and, and-le-l, or-zero-r, and-zero-r, and-mask}
 use lib.Dec.{eqb}
 use lib.ListN.{length, drop, getD}
-use borrow.Author.Tests.{eq-eqb, ne-eqb}
 use Rattle.rules.specs.Base.{if_then_else_}
 use Rattle.rules.specs.Text.{columnAfter}
 use Rattle.ascii.specs.Part.{part, has}
@@ -18,14 +19,34 @@ use Rattle.columns.specs.Measured.{oneOn, measure, onward, tabs}
 
 -- ---- one byte
 
-pub after-feed : (at b : ℕ) → b ≡ 10 → 0 ≡ columnAfter at b
-after-feed at b e = rw (eq-eqb b 10 e)
+-- seven more than the last multiple of eight
+to-stop : (at : ℕ) → bitOr at 7 ≡ at / 8 * 8 + 7
+to-stop at =
+    let r : at % 8 < 8 = omega arith in
+    let e : at / 8 * 2 ^ 3 + at % 8 ≡ at = omega arith in
+    let o : bitOr (at / 8 * 2 ^ 3 + at % 8) (0 * 2 ^ 3 + 7) ≡ bitOr (at / 8) 0 * 2 ^ 3 + bitOr (at % 8) 7 = or-block 3 (at / 8) 0 (at % 8) 7 (omega arith) (omega arith) in
+    let l : bitOr (at % 8) 7 < 2 ^ 3 = or-lt 3 (at % 8) 7 (omega arith) (omega arith) in
+    let a = or-add-and (at % 8) 7 in
+    let b = and-le-l (at % 8) 7 in
+    rw (e, or-zero-r (at / 8)) at o ∙ (omega arith)
 
-pub after-tab : (at b : ℕ) → (b ≡ 10 → ⊥) → b ≡ 9 → (at / 8 + 1) * 8 ≡ columnAfter at b
-after-tab at b f e = rw (ne-eqb b 10 f, eq-eqb b 9 e)
+pub stop-fits : (at b s : ℕ) → at < 2 ^ 63 → s ≡ (if eqb b 9 then 7 else 0) → bitOr at s + 1 < 2 ^ 64
+stop-fits at b s h e = let l = or-lt 63 at s h (rw e (go (eqb b 9))) in omega arith
+  where
+    go : (t : Bool) → (if t then 7 else 0) < 2 ^ 63
+    go true = omega arith
+    go false = omega arith
 
-pub after-other : (at b : ℕ) → (b ≡ 10 → ⊥) → (b ≡ 9 → ⊥) → at + 1 ≡ columnAfter at b
-after-other at b f t = rw (ne-eqb b 10 f, ne-eqb b 9 t) (add-one at)
+pub by-column : (at b s k : ℕ) → at < 2 ^ 63 → s ≡ (if eqb b 9 then 7 else 0) → k ≡ (if eqb b 10 then 0 else 2 ^ 64 - 1) → bitAnd (bitOr at s + 1) k ≡ columnAfter at b
+by-column at b s k h es ek = rw (es, ek) (go (eqb b 10) (eqb b 9))
+  where
+    whole : (x : ℕ) → x < 2 ^ 64 → bitAnd x (2 ^ 64 - 1) ≡ x
+    whole x l = and-mask x 64 ∙ mod-eq-of-lt l
+
+    go : (f t : Bool) → bitAnd (bitOr at (if t then 7 else 0) + 1) (if f then 0 else 2 ^ 64 - 1) ≡ (if f then 0 else if t then (at / 8 + 1) * 8 else suc at)
+    go true t = and-zero-r (bitOr at (if t then 7 else 0) + 1)
+    go false true = let e = to-stop at in whole (bitOr at 7 + 1) (omega arith) ∙ (omega arith)
+    go false false = rw (or-zero-r at) (whole (at + 1) (omega arith) ∙ add-one at)
 
 column-most : (at x : ℕ) → columnAfter at x ≤ at + 8
 column-most at x = go (eqb x 10) (eqb x 9)

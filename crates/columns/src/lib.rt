@@ -4,8 +4,10 @@ use longest::all_are;
 use longest::larger;
 ghost use mathlib.Core.Path.{_≡_};
 ghost use mathlib.Core.Bool.{false};
-ghost use Prim.Native.Nat.{_+_, _*_, _^_, _≤_, _<_};
+ghost use Prim.Native.Nat.{_+_, _-_, _*_, _^_, _≤_, _<_};
+ghost use lib.Dec.{eqb};
 ghost use lib.ListN.{length};
+ghost use Rattle.rules.specs.Base.{if_then_else_};
 ghost use Rattle.rules.specs.Text.{columnAfter};
 ghost use Rattle.ascii.specs.Part.{part, has};
 ghost use Rattle.columns.specs.Measured.{measure, onward, tabs};
@@ -16,17 +18,26 @@ pub struct Measure {
     pub best: usize,
 }
 
+// The bits that a tab sets before it goes on by one.
+fn stop(b: u8) -> usize
+    ensures { λ r. ⌜ r ≡ (if eqb b 9 then 7 else 0) ⌝ }
+{
+    if b == 9 { 7 } else { 0 }
+}
+
+// The bits that are kept: none after a line feed.
+fn kept(b: u8) -> usize
+    ensures { λ r. ⌜ r ≡ (if eqb b 10 then 0 else 2 ^ 64 - 1) ⌝ }
+{
+    if b == 10 { 0 } else { 18446744073709551615 }
+}
+
+// No branch, for bytes in no order.
 fn column_after(at: usize, b: u8) -> usize
     requires { ⌜ at < 2 ^ 63 ⌝ }
     ensures { λ r. ⌜ r ≡ columnAfter at b ⌝ }
 {
-    if b == 10 {
-        return 0;
-    }
-    if b == 9 {
-        return (at / 8 + 1) * 8;
-    }
-    at + 1
+    ((at | stop(b)) + 1) & kept(b)
 }
 
 // A byte at a time: each column hangs on the one before it.

@@ -97,7 +97,7 @@ by-size d len i n m w h z c e k f =
 -- ---- what the marks say
 
 -- none of two kinds, and so neither
-has-either : (a b : ℕ) (v : List ℕ) → has a a v ≡ false → has b b v ≡ false → has a b v ≡ false
+pub has-either : (a b : ℕ) (v : List ℕ) → has a a v ≡ false → has b b v ≡ false → has a b v ≡ false
 has-either a b [] h k = refl
 has-either a b (x ∷ xs) h k = go (eqb x a) (eqb x b) (has-either a b xs) h k
   where

@@ -6,18 +6,17 @@ use Prim.Native.Nat.{ℕ, zero, suc, _+_, _-_, _≤_, max}
 use native.Mathlib.Omega.{arith}
 use lib.Dec.{eqb}
 use lib.ListN.{length, take, drop, getD}
+use lib.Seq.{take-take}
 use borrow.Author.Tests.{eq-eqb}
 use Rattle.rules.specs.Base.{if_then_else_}
-use Rattle.rules.specs.Text.{lineFeeds, widthFrom, width}
+use Rattle.rules.specs.Text.{widthFrom, width}
 use Rattle.rules.proofs.Columns.{longestFrom}
 use Rattle.ascii.specs.Part.{part, has, before}
 use Rattle.ascii.proofs.PartLaws.{length-part, part-cons, part-more, part-drop, part-end}
-use Rattle.lines.specs.declared.Marks.{Marks}
 use Rattle.columns.specs.declared.Measure.{Measure}
-use Rattle.lines.specs.Marked.{Marked}
-use Rattle.columns.specs.Measured.{oneOn, measure}
-use Rattle.columns.proofs.MeasureLaws.{Counted, counted-on, by-rest}
-use Rattle.lines.proofs.MarkLaws.{no-tab}
+use Rattle.columns.specs.Measured.{oneOn, measure, onward}
+use Rattle.columns.proofs.MeasureLaws.{Counted, counted-on, by-rest, by-plain}
+use Rattle.lines.proofs.MarkLaws.{has-either}
 use Rattle.longest.specs.Short.{Last}
 use Rattle.longest.proofs.LongestLaws.{rest, exact}
 
@@ -40,23 +39,11 @@ since-last : (v w : List ℕ) (x at : ℕ) → x ≡ 10 → has 10 10 w ≡ fals
 since-last [] w x at e h = let z : length w ≡ 0 + length w = omega arith in z ∙ since-none w 0 h ∙ ap (λ (b : Bool). since (if b then 0 else suc at) w) (sym (eq-eqb x 10 e))
 since-last (y ∷ ys) w x at e h = since-last ys w x (if eqb y 10 then 0 else suc at) e h
 
-some-feed : (v : List ℕ) → has 10 10 v ≡ false → lineFeeds v ≡ 0
-some-feed [] h = refl
-some-feed (x ∷ xs) h = go (eqb x 10) (some-feed xs) h
-  where
-    go : (b : Bool) → (has 10 10 xs ≡ false → lineFeeds xs ≡ 0) → ((b || b) || has 10 10 xs) ≡ false → (if b then suc (lineFeeds xs) else lineFeeds xs) ≡ 0
-    go true f h = absurd (let y : _≡_ {A = ℕ} 0 1 = cc in omega arith)
-    go false f h = f h
-
 -- where a line feed stands the column is what follows the last one
-module _ (d : List ℕ) (start n at : ℕ) (h : start + n ≤ length d) (k : Marks) (w : Marked (part d start n) k) (z : k .feeds ≡ 0 → ⊥) where
-  pub by-past : (r : ℕ) → Last d start n r → n - r ≡ since at (part d start n)
-  by-past zero l =
-      let f = l .none in
-      let a : start + 0 ≡ start = omega arith in
-      let b : n - 0 ≡ n = omega arith in
-      absurd (z (w .counted ∙ some-feed (part d start n) (rw (a, b) at f)))
-  by-past (suc p) t =
+module _ (d : List ℕ) (start n at : ℕ) (h : start + n ≤ length d) where
+  pub by-past : (r : ℕ) → (r ≡ 0 → ⊥) → Last d start n r → n - r ≡ since at (part d start n)
+  by-past zero z l = absurd (z refl)
+  by-past (suc p) z t =
       let c = t .within in
       let f = t .none in
       let a : n ≡ p + suc (n - suc p) = omega arith in
@@ -124,13 +111,46 @@ lines-measured m (x ∷ xs) u h =
         let l = longest-low xs (suc (m .at)) (suc (m .at)) (m .best) (omega arith) in
         rw (g, e) (ap (both (since (suc (m .at)) xs)) (sym l) ∙ q (rw e at h))
 
-module _ (d : List ℕ) (start n : ℕ) (k : Marks) (m : Measure) (u : m .at ≤ m .best) (w : Marked (part d start n) k) (t : k .tab ≡ 0) where
+module _ (d : List ℕ) (start n : ℕ) (m : Measure) (u : m .at ≤ m .best) (t : has 9 9 (part d start n) ≡ false) where
   pub by-lines : (a b : ℕ) → a ≡ since (m .at) (part d start n) → b ≡ longestFrom (m .at) (m .best) (part d start n) → record { at = a; best = b } ≡ measure m (part d start n)
   unfolding both
-  by-lines a b e f = rw (e, f) (lines-measured m (part d start n) u (no-tab (part d start n) k w t))
+  by-lines a b e f = rw (e, f) (lines-measured m (part d start n) u t)
 
   pub by-last-lines : (b : ℕ) → b ≡ longestFrom (m .at) (m .best) (part d start n) → b ≡ measure m (part d start n) .best
   by-last-lines b f = ap (λ (r : Measure). r .best) (by-lines (since (m .at) (part d start n)) b refl f)
+
+-- ---- lines without a tab, and the line of one
+
+pub by-no-feed : (d : List ℕ) (start n r : ℕ) (m e : Measure) → start + n ≤ length d → m .at ≤ m .best → has 9 9 (part d start n) ≡ false → r ≡ 0 → Last d start n r → e ≡ onward m n → e ≡ measure m (part d start n)
+by-no-feed d start n r m e h u t z l f =
+    let a : start + 0 ≡ start = omega arith in
+    let b : n - 0 ≡ n = omega arith in
+    let g : has 10 10 (part d start n) ≡ false = rw (z, a, b) at (l .none) in
+    f ∙ by-plain d start n m h u (has-either 9 10 (part d start n) t g)
+
+before-any : (b : ℕ) (v : List ℕ) (r : ℕ) → r ≤ before b v → has b b (take r v) ≡ false
+before-any b v zero h = refl
+before-any b [] (suc r) h = refl
+before-any b (x ∷ xs) (suc r) h = go (eqb x b) refl (before-any b xs r)
+  where
+    go : (c : Bool) → eqb x b ≡ c → (r ≤ before b xs → has b b (take r xs) ≡ false) → has b b (x ∷ take r xs) ≡ false
+    go true e f = absurd (let k : before b (x ∷ xs) ≡ 0 = rw e in omega arith)
+    go false e f = let k : before b (x ∷ xs) ≡ suc (before b xs) = rw e in rw e (f (omega arith))
+
+pub no-tab-before : (d : List ℕ) (start n tab r : ℕ) → tab ≡ before 9 (part d start n) → tab ≤ n → r ≤ tab → has 9 9 (part d start r) ≡ false
+no-tab-before d start n tab r e c h =
+    ap (has 9 9) (sym (take-take r n (drop start d) (omega arith))) ∙ before-any 9 (part d start n) r (omega arith)
+
+-- a turn: b bytes without a tab, and l of the tab's line
+module _ (d : List ℕ) (start n : ℕ) (from : Measure) (i : ℕ) (m : Measure) (h : start + n ≤ length d) (s : Counted d start n from i m) (b : ℕ) (p : Measure) (f : p ≡ measure m (part d (start + i) b)) where
+  pub by-part : i + b ≤ n → Counted d start n from (i + b) p
+  by-part c = counted-on d start n from i m h s b c p f
+
+  pub by-tab-line : (l : ℕ) (e : Measure) → i + (b + l) ≤ n → e ≡ measure p (part d (start + i + b) l) → Counted d start n from (i + (b + l)) e
+  by-tab-line l e c g =
+      let a : start + i + b ≡ start + (i + b) = omega arith in
+      let z : i + b + l ≡ i + (b + l) = omega arith in
+      rw z at (counted-on d start n from (i + b) p h (by-part (omega arith)) l (omega arith) e (rw a at g))
 
 -- ---- a text from its start
 

@@ -3,16 +3,18 @@ use ascii::find;
 use columns::Measure;
 use columns::by_columns;
 use columns::passed;
+use longest::equal;
 use longest::larger;
 use longest::longest_line;
 use longest::past_last;
 ghost use mathlib.Core.Path.{_≡_};
+ghost use mathlib.Core.Bool.{false};
 ghost use Prim.Native.Nat.{_+_, _*_, _^_, _≤_, _<_};
 ghost use lib.Dec.{eqb};
 ghost use lib.ListN.{length, take};
 ghost use Rattle.rules.specs.Base.{if_then_else_};
 ghost use Rattle.rules.proofs.Columns.{longestFrom};
-ghost use Rattle.ascii.specs.Part.{part};
+ghost use Rattle.ascii.specs.Part.{part, has};
 ghost use Rattle.columns.specs.Measured.{measure};
 ghost use Rattle.lines.specs.Marked.{Marked, sizeOf};
 
@@ -27,12 +29,6 @@ pub struct Size {
 pub struct Marks {
     pub feeds: usize,
     pub tab: u8,
-}
-
-fn equal(a: u8, b: u8) -> u8
-    ensures { λ r. ⌜ (r ≡ (if eqb a b then 1 else 0)) × (r ≤ 1) ⌝ }
-{
-    if a == b { 1 } else { 0 }
 }
 
 // No branch for each byte, and so few bytes that their line feeds, summed, fit in one: a block of a fixed length is counted many
@@ -99,6 +95,44 @@ fn longest_from(text: &[u8], start: usize, n: usize, m: Measure) -> usize
     longest_line(text, start + first + 1, n - first - 1, best)
 }
 
+fn without_tabs(text: &[u8], start: usize, n: usize, m: Measure) -> Measure
+    requires { ⌜ (start + n ≤ length (now text)) × (m .at ≤ m .best) × (m .at + n < 2 ^ 63) ⌝ }
+    requires { ⌜ has 9 9 (part (now text) start n) ≡ false ⌝ }
+    ensures { λ r. ⌜ r ≡ measure m (part (now (text .entry)) start n) ⌝ }
+{
+    let last = past_last(text, start, n);
+    if last == 0 {
+        return passed(m, n);
+    }
+    Measure {
+        at: n - last,
+        best: longest_from(text, start, n, m),
+    }
+}
+
+// ---- with tabs
+
+// A tab far on costs its own line: what stands before the line has none. Where they stand close all is counted by columns.
+fn with_tabs(text: &[u8], start: usize, n: usize, from: Measure) -> Measure
+    requires { ⌜ (start + n ≤ length (now text)) × (from .at ≤ from .best) × (from .at + 8 * n < 2 ^ 63) ⌝ }
+    ensures { λ r. ⌜ r ≡ measure from (part (now (text .entry)) start n) ⌝ }
+{
+    let mut m = from;
+    let mut i = 0;
+    while i < n {
+        let tab = find(text, start + i, n - i, 9);
+        if tab < 128 {
+            break;
+        }
+        let before = past_last(text, start + i, tab);
+        let lines = without_tabs(text, start + i, before, m);
+        let line = tab - before + find(text, start + i + tab, n - i - tab, 10);
+        m = by_columns(text, start + i + before, line, lines);
+        i += before + line;
+    }
+    by_columns(text, start + i, n - i, m)
+}
+
 // ---- lines and width
 
 // A stretch is counted by the cheapest way that its marks allow.
@@ -108,16 +142,12 @@ fn stretch(text: &[u8], start: usize, n: usize, k: Marks, m: Measure) -> Measure
     ensures { λ r. ⌜ r ≡ measure m (part (now (text .entry)) start n) ⌝ }
 {
     if k.tab != 0 {
-        return by_columns(text, start, n, m);
+        return with_tabs(text, start, n, m);
     }
     if k.feeds == 0 {
         return passed(m, n);
     }
-    let at = n - past_last(text, start, n);
-    Measure {
-        at,
-        best: longest_from(text, start, n, m),
-    }
+    without_tabs(text, start, n, m)
 }
 
 // The last one: nobody asks for the column at its end.
@@ -127,13 +157,14 @@ fn last_stretch(text: &[u8], start: usize, n: usize, k: Marks, m: Measure) -> us
     ensures { λ r. ⌜ r ≡ measure m (part (now (text .entry)) start n) .best ⌝ }
 {
     if k.tab != 0 {
-        let all = by_columns(text, start, n, m);
+        let all = with_tabs(text, start, n, m);
         return all.best;
     }
     longest_from(text, start, n, m)
 }
 
-// A stretch, 21 blocks of marks, is so short that it is still near when it is read again, and that few have a tab where tabs are few.
+// A stretch is 22 blocks of marks: so short that it is still near when it is read again, and longer than a page of memory, so that
+// the next bytes are fetched while these are counted.
 pub fn lines_width(text: &[u8], len: usize) -> Size
     requires { ⌜ (len ≤ length (now text)) × (len < 2 ^ 60) ⌝ }
     ensures { λ r. ⌜ r ≡ sizeOf (take len (now (text .entry))) ⌝ }
@@ -144,11 +175,11 @@ pub fn lines_width(text: &[u8], len: usize) -> Size
     let mut m = Measure { at: 0, best: 0 };
     let mut lines = 1;
     let mut i = 0;
-    while 4032 < len - i {
-        let k = all_marks(text, i, 4032);
-        m = stretch(text, i, 4032, k, m);
+    while 4224 < len - i {
+        let k = all_marks(text, i, 4224);
+        m = stretch(text, i, 4224, k, m);
         lines += k.feeds;
-        i += 4032;
+        i += 4224;
     }
     let k = all_marks(text, i, len - i);
     Size {

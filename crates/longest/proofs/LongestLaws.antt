@@ -5,7 +5,7 @@ use mathlib.Core.List.{List, [], _∷_}
 use Prim.Native.Nat.{ℕ, zero, suc, _+_, _-_, _≤_, _<_, min, max}
 use native.Mathlib.Numerals.{add-one}
 use native.Mathlib.Omega.{arith}
-use lib.Bits.{bitOr, bitXor, or-add-and, xor-add-and, and-le-l, and-le-r}
+use lib.Bits.{bitOr, or-add-and, and-le-l, and-le-r}
 use lib.Dec.{eqb}
 use lib.ListN.{length, take, drop, getD, replicate, length-drop}
 use lib.Seq.{drop-drop, take-take, getD-take, getD-drop}
@@ -75,15 +75,6 @@ rest (x ∷ xs) at best h = go (eqb x 10) refl (rest xs 0 best (omega arith)) (r
     go true e f g = let m : max at best ≡ best = omega arith in rw (e, m) f
     go false e f g = rw e g
 
--- empty lines
-empty : (v : List ℕ) (r best : ℕ) → take r v ≡ replicate r 10 → longestFrom 0 best (drop r v) ≡ longestFrom 0 best v
-empty v zero best e = refl
-empty [] (suc r) best e = refl
-empty (x ∷ xs) (suc r) best e =
-    let y : x ≡ 10 = ap (λ (l : List ℕ). getD l 0 0) e in
-    let m : max 0 best ≡ best = omega arith in
-    rw (eq-eqb x 10 y, m) (empty xs r best (ap (drop 1) e))
-
 -- a line that is measured
 pub exact : (v : List ℕ) (at best : ℕ) → longestFrom 0 (max (at + before 10 v) best) (drop (suc (before 10 v)) v) ≡ longestFrom at best v
 exact [] at best = omega arith
@@ -98,55 +89,13 @@ exact (x ∷ xs) at best = go (eqb x 10) refl (exact xs (suc at) best)
 
 -- ---- whether a line feed is in a window
 
-xor-none : (x : ℕ) → eqb (bitXor x 10) 0 ≡ eqb x 10
-xor-none x = go (eqb x 10) refl
-  where
-    go : (b : Bool) → eqb x 10 ≡ b → eqb (bitXor x 10) 0 ≡ b
-    go true e = rw (eqb-true x 10 e)
-    go false e = ne-eqb (bitXor x 10) 0 (λ z. eqb-false x 10 e (let o = xor-add-and x 10 in let k = and-le-l x 10 in let l = and-le-r x 10 in omega arith))
-
-least-none : (p q : ℕ) → eqb (min p q) 0 ≡ (eqb p 0 || eqb q 0)
-least-none p q = go (eqb p 0) (eqb q 0) refl refl
-  where
-    go : (a b : Bool) → eqb p 0 ≡ a → eqb q 0 ≡ b → eqb (min p q) 0 ≡ (a || b)
-    go true b e f = let k = eqb-true p 0 e in eq-eqb (min p q) 0 (omega arith)
-    go false true e f = let k = eqb-true q 0 f in eq-eqb (min p q) 0 (omega arith)
-    go false false e f = ne-eqb (min p q) 0 (λ z. let k = eqb-false p 0 e in let l = eqb-false q 0 f in omega arith)
-
-pub by-among : (d : List ℕ) (at i m r : ℕ) → at + i < length d → eqb m 0 ≡ has 10 10 (part d at i) → r ≡ min m (bitXor (getD d (at + i) 0) 10) → eqb r 0 ≡ has 10 10 (part d at (i + 1))
-by-among d at i m r h e f =
-    let x = getD d (at + i) 0 in
-    rw (f, least-none m (bitXor x 10), e, xor-none x, part-suc d at i h, has-both 10 10 (part d at i) (x ∷ [])) (ap (λ (b : Bool). has 10 10 (part d at i) || b) (twice (eqb x 10)))
-  where
-    twice : (b : Bool) → b ≡ ((b || b) || false)
-    twice true = refl
-    twice false = refl
-
 -- a part of a window has one
-in-first : (d : List ℕ) (at far w : ℕ) → has 10 10 (part d at w) ≡ true → has 10 10 (part d at (far + w)) ≡ true
-in-first d at far w e = let k : far + w ≡ w + far = omega arith in rw (k, part-more d at w far, has-both 10 10 (part d at w) (part d (at + w) far), e)
-
-in-second : (d : List ℕ) (at far w : ℕ) → has 10 10 (part d (at + far) w) ≡ true → has 10 10 (part d at (far + w)) ≡ true
+pub in-second : (d : List ℕ) (at far w : ℕ) → has 10 10 (part d (at + far) w) ≡ true → has 10 10 (part d at (far + w)) ≡ true
 in-second d at far w e = rw (part-more d at far w, has-both 10 10 (part d at far) (part d (at + far) w), e) (right (has 10 10 (part d at far)))
   where
     right : (b : Bool) → (b || true) ≡ true
     right true = refl
     right false = refl
-
-in-window : (d : List ℕ) (at far w p q : ℕ) → eqb p 0 ≡ has 10 10 (part d at w) → eqb q 0 ≡ has 10 10 (part d (at + far) w) → min p q ≡ 0 → has 10 10 (part d at (far + w)) ≡ true
-in-window d at far w zero q e f z = in-first d at far w (sym e)
-in-window d at far w (suc p) zero e f z = in-second d at far w (sym f)
-in-window d at far w (suc p) (suc q) e f z = absurd (omega arith)
-
-pub by-window : (d : List ℕ) (start far w k all p q m : ℕ) → eqb p 0 ≡ has 10 10 (part d (start + k) w) → eqb q 0 ≡ has 10 10 (part d (start + k + far) w) → m ≡ min p q
-    → (all ≡ 0 → InEach d start (far + w) k) → bitOr all m ≡ 0 → InEach d start (far + w) (k + 1)
-by-window d start far w k all p q m e f g s z =
-    let n = eqb-both (eqb all 0) (eqb m 0) (sym (or-zero all m) ∙ eq-eqb (bitOr all m) 0 z) in
-    record { fed = below-more _ _ (s (eqb-true all 0 (n .0)) .fed) (in-window d (start + k) far w p q e f (sym g ∙ eqb-true m 0 (n .1))) }
-  where
-    eqb-both : (a b : Bool) → (a && b) ≡ true → (a ≡ true) × (b ≡ true)
-    eqb-both true b h = (refl, h)
-    eqb-both false b h = absurd (false≢true h)
 
 -- ---- parts: what is passed
 
@@ -169,12 +118,6 @@ module _ (d : List ℕ) (start n best : ℕ) (h : start + n ≤ length d) where
       let f : drop (i + (p + 1)) (part d start n) ≡ drop (suc p) v = sym (drop-drop (p + 1) i (part d start n)) ∙ ap (λ (j : ℕ). drop j v) (add-one p) in
       record { within = omega arith; kept = ap (longestFrom 0 best) f ∙ jump v p 0 best (omega arith) b (omega arith) ∙ s .kept }
 
-  -- lines of best bytes each
-  pub by-hop : (i : ℕ) → best < n - i → getD d (start + i + best) 0 ≡ 10 → Passed d start n best i → Passed d start n best (i + (best + 1))
-  by-hop i c z s =
-      let a : start + i + best ≡ start + (i + best) = omega arith in
-      jump-at i best (omega arith) (omega arith) (rw a at z) s
-
   -- a line feed that ends r bytes
   pub by-last : (r : ℕ) → best < n → Last d start (best + 1) r → Passed d start n best r
   by-last zero c l = passed-none d start n best
@@ -193,12 +136,8 @@ module _ (d : List ℕ) (start n best : ℕ) (h : start + n ≤ length d) where
       let t : drop (suc k) (part d start n) ≡ drop 1 v = ap (λ (j : ℕ). drop j (part d start n)) (sym (add-one k)) ∙ sym (drop-drop 1 k (part d start n)) in
       ap (longestFrom 0 best) t ∙ one-on v w best (ap (has 10 10) a ∙ e .fed k (omega arith)) c ∙ by-each w k c (omega arith) (record { fed = λ j l. e .fed j (omega arith) })
 
-  pub by-windows : (w k : ℕ) (b : Bool) → (b ≡ true → InEach d start w k) → w ≤ best + 1 → k + w ≤ n → b ≡ true → Passed d start n best k
-  by-windows w k b e c g f = record { within = omega arith; kept = by-each w k c g (e f) }
-
-  -- empty lines
-  pub by-feeds : (r : ℕ) → r ≤ n → part d start r ≡ replicate r 10 → Passed d start n best r
-  by-feeds r c e = record { within = c; kept = empty (part d start n) r best (take-take r n (drop start d) c ∙ e) }
+  pub by-windows : (w k : ℕ) → InEach d start w k → w ≤ best + 1 → k + w ≤ n → Passed d start n best k
+  by-windows w k e c g = record { within = omega arith; kept = by-each w k c g e }
 
 -- ---- the last line feed
 

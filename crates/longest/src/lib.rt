@@ -5,18 +5,31 @@ use ascii::find;
 use ascii::in_run;
 ghost use mathlib.Core.Path.{_≡_};
 ghost use mathlib.Core.Bool.{true};
-ghost use Prim.Native.Nat.{_+_, _^_, _≤_, _<_, min, max};
+ghost use Prim.Native.Nat.{_+_, _*_, _^_, _≤_, _<_, min, max};
 ghost use lib.Dec.{eqb};
 ghost use lib.ListN.{length, replicate};
-ghost use Rattle.rules.specs.Base.{same};
+ghost use Rattle.rules.specs.Base.{if_then_else_, same};
 ghost use Rattle.rules.proofs.Columns.{longestFrom};
-ghost use Rattle.ascii.specs.Part.{part, has};
-ghost use Rattle.longest.specs.Short.{Passed, InEach, Last};
+ghost use Rattle.ascii.specs.Part.{part};
+ghost use Rattle.longest.specs.Short.{Passed, Last};
+ghost use Rattle.longest.specs.Flags.{Flags, Flagged, Widened, Reached, AllSet};
 
 pub fn larger(a: usize, b: usize) -> usize
     ensures { λ r. ⌜ r ≡ max a b ⌝ }
 {
     if a < b { b } else { a }
+}
+
+fn least(a: usize, b: usize) -> usize
+    ensures { λ r. ⌜ r ≡ min a b ⌝ }
+{
+    if a < b { a } else { b }
+}
+
+pub fn equal(a: u8, b: u8) -> u8
+    ensures { λ r. ⌜ (r ≡ (if eqb a b then 1 else 0)) × (r ≤ 1) ⌝ }
+{
+    if a == b { 1 } else { 0 }
 }
 
 // No branch for each byte.
@@ -35,121 +48,111 @@ pub fn all_are(text: &[u8], start: usize, n: usize, b: u8) -> bool
 
 // ---- a line feed in every window
 
-fn least(a: u8, b: u8) -> u8
-    ensures { λ r. ⌜ r ≡ min a b ⌝ }
+// Eight flags: bit k tells of the byte k * far on.
+fn flags(text: &[u8], at: usize, far: usize) -> u8
+    requires { ⌜ at + 7 * far < length (now text) ⌝ }
+    ensures { λ r. ⌜ Flags (now (text .entry)) at far r ⌝ }
 {
-    if a < b { a } else { b }
+    let mut bits: u8 = 0;
+    let mut k = 8;
+    while 0 < k {
+        k -= 1;
+        bits = bits + bits + equal(text[at + k * far], 10);
+    }
+    bits
 }
 
-// 0 where a line feed is among w bytes.
-fn among(text: &[u8], at: usize, w: usize) -> u8
-    requires { ⌜ at + w ≤ length (now text) ⌝ }
-    ensures { λ r. ⌜ eqb r 0 ≡ has 10 10 (part (now (text .entry)) at w) ⌝ }
+// The flags of n bytes.
+fn flag(to: &mut [u8], text: &[u8], start: usize, far: usize, n: usize)
+    requires { ⌜ (n ≤ length (now to)) × (start + 7 * far + n ≤ length (now text)) ⌝ }
+    ensures { λ _. ⌜ Flagged (now (text .entry)) start far n (now (to .entry)) (now (to .exit)) ⌝ }
 {
-    let mut lowest: u8 = 255;
-    let mut i = 0;
-    while i < w {
-        lowest = least(lowest, text[at + i] ^ 10);
-        i += 1;
+    let mut j = 0;
+    while j < n {
+        to[j] = flags(text, start + j, far);
+        j += 1;
     }
-    lowest
 }
 
-// Whether a line feed is in each of 64 windows of far + w bytes. One of two parts of w bytes has it: the first, or the one `far` on.
-// No branch for each window, so that with a fixed w they are looked at many at a time.
-fn every(text: &[u8], start: usize, far: usize, w: usize) -> bool
-    requires { ⌜ start + 64 + far + w ≤ length (now text) ⌝ }
-    ensures { λ r. ⌜ (r ≡ true → InEach (now (text .entry)) start (far + w) 64) ⌝ }
+// Each flag or the one `by` bytes on.
+fn widen(to: &mut [u8], n: usize, by: usize)
+    requires { ⌜ n + by ≤ length (now to) ⌝ }
+    ensures { λ _. ⌜ Widened (now (to .entry)) n by (now (to .exit)) ⌝ }
 {
-    let mut all: u8 = 0;
-    let mut k = 0;
-    while k < 64 {
-        let at = start + k;
-        all |= least(among(text, at, w), among(text, at + far, w));
-        k += 1;
+    let mut j = 0;
+    while j < n {
+        to[j] |= to[j + by];
+        j += 1;
     }
-    all == 0
 }
 
-// Whether 64 bytes may be passed: a line feed is in each window of best + 1 bytes.
-fn are_short(text: &[u8], start: usize, n: usize, best: usize) -> bool
-    requires { ⌜ (start + n ≤ length (now text)) × (best < 16) ⌝ }
-    ensures { λ r. ⌜ (r ≡ true → Passed (now (text .entry)) start n best 64) ⌝ }
+// Flags that tell of h bytes tell of `by` more, unless that is more than w.
+fn reach(to: &mut [u8], n: usize, h: usize, by: usize, w: usize) -> usize
+    requires { ⌜ (n + by ≤ length (now to)) × (h ≤ w) × (w ≤ 128) × (by ≤ 32) ⌝ }
+    ensures { λ r. ⌜ (r ≤ w) × Reached (now (to .entry)) h r (now (to .exit)) ⌝ }
 {
-    if n < 80 {
-        return false;
+    if w < h + by {
+        return h;
     }
-    if best < 1 {
-        return every(text, start, 0, 1);
-    }
-    if best < 4 {
-        return every(text, start, best - 1, 2);
-    }
-    if best < 8 {
-        return every(text, start, best - 3, 4);
-    }
-    every(text, start, best - 7, 8)
+    widen(to, n, by);
+    h + by
 }
 
-// Empty lines. The first eight tell at little cost whether they are worth a look.
-fn feed_run(text: &[u8], start: usize, n: usize) -> usize
-    requires { ⌜ start + n ≤ length (now text) ⌝ }
-    ensures { λ r. ⌜ (r ≤ n) × (part (now (text .entry)) start r ≡ replicate r 10) ⌝ }
+// Each flag and those of the next bytes, as many as the result tells. A distance that is a plain number lets the compiler take many
+// bytes at a time.
+fn reached(to: &mut [u8], n: usize, w: usize) -> usize
+    requires { ⌜ (n + 32 ≤ length (now to)) × (0 < w) × (w ≤ 128) ⌝ }
+    ensures { λ r. ⌜ (r ≤ w) × Reached (now (to .entry)) 1 r (now (to .exit)) ⌝ }
 {
-    let mut i = 0;
-    if n < 64 {
-        return i;
-    }
-    if !all_are(text, start, 8, 10) {
-        return i;
-    }
-    while 64 <= n - i {
-        if !all_are(text, start + i, 64, 10) {
-            return i;
-        }
-        i += 64;
-    }
-    i
+    let two = reach(to, n, 1, 1, w);
+    let four = reach(to, n, two, 2, w);
+    let eight = reach(to, n, four, 4, w);
+    let sixteen = reach(to, n, eight, 8, w);
+    let more = reach(to, n, sixteen, 16, w);
+    reach(to, n, more, 32, w)
 }
 
-// For wide windows the other ways are cheaper.
+// Whether of n bytes each flag is set, in the byte or in the one `by` on.
+fn all_flagged(flagged: &[u8], n: usize, by: usize) -> bool
+    requires { ⌜ n + by ≤ length (now flagged) ⌝ }
+    ensures { λ r. ⌜ (r ≡ true → AllSet (now (flagged .entry)) n by) ⌝ }
+{
+    let mut unset: u8 = 0;
+    let mut j = 0;
+    while j < n {
+        unset |= (flagged[j] | flagged[j + by]) ^ 255;
+        j += 1;
+    }
+    unset == 0
+}
+
+// Short lines: a line feed is in each window of best + 1 bytes. Eight parts of the text are looked at together, a bit for each. Few
+// bytes and long lines are passed sooner line by line, and the first bytes of a text tell little of its longest line.
 fn short_lines(text: &[u8], start: usize, n: usize, best: usize) -> usize
     requires { ⌜ start + n ≤ length (now text) ⌝ }
     ensures { λ r. ⌜ Passed (now (text .entry)) start n best r ⌝ }
 {
-    if 15 < best {
+    if 127 < best {
         return 0;
     }
-    let empty = feed_run(text, start, n);
-    if empty != 0 {
-        return empty;
+    if start + n < 3072 {
+        return 0;
     }
-    if are_short(text, start, n, best) {
-        return 64;
+    if n < 512 {
+        return 0;
+    }
+    let more = (best / 16 + 1) * 16;
+    let far = least((n - more) / 128 * 16, 512);
+    let mut flagged: [u8; 704] = [0; 704];
+    flag(&mut flagged, text, start, far, far + more);
+    let h = reached(&mut flagged, far + more, best + 1);
+    if all_flagged(&flagged, far, best + 1 - h) {
+        return 8 * far;
     }
     0
 }
 
 // ---- a line feed far on
-
-// A line feed just `best` bytes on, again and again: lines of one length.
-fn hops(text: &[u8], start: usize, n: usize, best: usize) -> usize
-    requires { ⌜ start + n ≤ length (now text) ⌝ }
-    ensures { λ r. ⌜ Passed (now (text .entry)) start n best r ⌝ }
-{
-    let mut i = 0;
-    // For so few bytes the windows are cheaper.
-    if best < 4 {
-        return i;
-    }
-    while best < n - i {
-        if text[start + i + best] != 10 {
-            return i;
-        }
-        i += best + 1;
-    }
-    i
-}
 
 // How many bytes there are up to the last line feed, and with it: looked for from the end, it is the farthest.
 pub fn past_last(text: &[u8], start: usize, n: usize) -> usize
@@ -181,14 +184,6 @@ fn passed_lines(text: &[u8], start: usize, n: usize, best: usize) -> usize
     if n <= best {
         return n;
     }
-    let run = hops(text, start, n, best);
-    if run != 0 {
-        return run;
-    }
-    let short = short_lines(text, start, n, best);
-    if short != 0 {
-        return short;
-    }
     past_last(text, start, best + 1)
 }
 
@@ -197,7 +192,7 @@ pub fn longest_line(text: &[u8], start: usize, n: usize, known: usize) -> usize
     ensures { λ r. ⌜ r ≡ longestFrom 0 known (part (now (text .entry)) start n) ⌝ }
 {
     let mut best = known;
-    let mut i = 0;
+    let mut i = short_lines(text, start, n, known);
     while i < n {
         let run = passed_lines(text, start + i, n - i, best);
         if run != 0 {

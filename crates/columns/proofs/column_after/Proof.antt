@@ -1,25 +1,19 @@
 use borrow.Author.Needs.{needs}
-use Rattle.columns.proofs.MeasureLaws.{after-feed, after-tab, after-other}
+use Rattle.columns.proofs.MeasureLaws.{stop-fits, by-column}
 use Rattle.columns.proofs.column_after.Statement.{statement}
 use Rattle.columns.proofs.column_after.Tie as tie
 
-returns : tie.Need-returns
-returns c = search (needs, after-feed)
+stop-requires : tie.Need-stop-requires
+stop-requires c κs = search needs
 
 add-result : tie.Need-add-result
-add-result c = search needs
+add-result c = search (needs, stop-fits)
 
-mul-result : tie.Need-mul-result
-mul-result c = search needs
+kept-requires : tie.Need-kept-requires
+kept-requires c κs = search needs
 
-returns-2 : tie.Need-returns-2
-returns-2 c = search (needs, after-tab)
-
-add-result-2 : tie.Need-add-result-2
-add-result-2 c = search needs
-
-returns-3 : tie.Need-returns-3
-returns-3 c = search (needs, after-other)
+returns : tie.Need-returns
+returns c = search (needs, by-column)
 
 pub column-after-spec : {M : Type 1} → statement M
-column-after-spec = tie.close (tie.spec returns add-result mul-result returns-2 add-result-2 returns-3)
+column-after-spec = tie.close (tie.spec stop-requires add-result kept-requires returns)

@@ -45,8 +45,8 @@ loop-again c =
     let l = marks .before .before .loop in
     let start = marks .before .before .before .before .before in
     let a = start .args in
-    let on = by-stretch (a .text .now) (a .len) (l .i) (l .m) (l .inv .0) 4032 _ (start .pre .0) (search needs) (c .before .stretch .ensures) in
-    (on, search needs, by-more-lines (a .text .now) (l .i) 4032 (l .lines) _ (marks .all-marks .ensures .0) (l .inv .2))
+    let on = by-stretch (a .text .now) (a .len) (l .i) (l .m) (l .inv .0) 4224 _ (start .pre .0) (search needs) (c .before .stretch .ensures) in
+    (on, search needs, by-more-lines (a .text .now) (l .i) 4224 (l .lines) _ (marks .all-marks .ensures .0) (l .inv .2))
 
 sub-all-marks : tie.Need-sub-all-marks Inv-loop μ-loop
 sub-all-marks c = search needs

@@ -14,8 +14,11 @@ Inv-loop text start n known best₀ i₀ best i = (i ≤ n + 1) × (longestFrom 
 abbrev μ-loop : tie.MeasureT-loop
 μ-loop text start n known best₀ i₀ best i = n - i
 
+short-lines-requires : tie.Need-short-lines-requires Inv-loop μ-loop
+short-lines-requires c κs = search needs
+
 loop-holds : tie.Need-loop-holds Inv-loop μ-loop
-loop-holds c = search needs
+loop-holds c = (search needs, c .short-lines .ensures .kept)
 
 add-passed-lines : tie.Need-add-passed-lines Inv-loop μ-loop
 add-passed-lines c = search needs
@@ -68,6 +71,7 @@ longest-line-spec =
     (tie.spec
     Inv-loop
     μ-loop
+    short-lines-requires
     loop-holds
     add-passed-lines
     sub-passed-lines

@@ -1,7 +1,7 @@
 use native.Mathlib.Omega.{arith}
 use borrow.Author.Tests.{eq-eqb, ne-eqb}
-use Rattle.lines.proofs.equal.Statement.{statement}
-use Rattle.lines.proofs.equal.Tie as tie
+use Rattle.longest.proofs.equal.Statement.{statement}
+use Rattle.longest.proofs.equal.Tie as tie
 
 returns : tie.Need-returns
 returns c = (simp (eq-eqb _ _ (c .if1 .taken)), omega arith)
