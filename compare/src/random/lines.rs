@@ -43,6 +43,21 @@ fn lines_of(dice: &mut Dice, size: usize) -> Vec<u8> {
     value
 }
 
+/// Many lines, the first as long as any, and one longer by a byte somewhere among them: no other line tells.
+fn one_longer(dice: &mut Dice) -> Vec<u8> {
+    let most = dice.pick(&MOST);
+    let mut lines = vec![vec![b'x'; most]];
+    let mut size = most;
+    while size < LONG {
+        let length = dice.below(most + 1);
+        lines.push(vec![b'x'; length]);
+        size += length + 1;
+    }
+    let at = 1 + dice.below(lines.len());
+    lines.insert(at, vec![b'y'; most + 1]);
+    lines.join(&b'\n')
+}
+
 /// Tabs in a row, about 16 and 32 of them, after some letters.
 fn tabs(dice: &mut Dice) -> Vec<u8> {
     let letters = dice.below(18);
@@ -80,6 +95,11 @@ pub fn lined(dice: &mut Dice, mut sheet: Sheet) -> Sheet {
     if taken < FEW && !sheet.tokens.is_empty() && dice.one_in(10) {
         let at = dice.below(sheet.tokens.len());
         sheet.tokens[at].value.extend(lines_of(dice, LONG));
+        if dice.one_in(2) {
+            sheet.tokens[at].value = one_longer(dice);
+            sheet.tokens.swap(0, at);
+            sheet.tokens.truncate(1);
+        }
     }
     sheet
 }
