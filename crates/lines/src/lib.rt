@@ -7,6 +7,7 @@ use longest::equal;
 use longest::larger;
 use longest::longest_line;
 use longest::past_last;
+use parts::by_parts;
 ghost use mathlib.Core.Path.{_≡_};
 ghost use mathlib.Core.Bool.{false};
 ghost use Prim.Native.Nat.{_+_, _*_, _^_, _≤_, _<_};
@@ -112,7 +113,7 @@ fn without_tabs(text: &[u8], start: usize, n: usize, m: Measure) -> Measure
 
 // ---- with tabs
 
-// A tab far on costs its own line: what stands before the line has none. Where they stand close all is counted by columns.
+// A tab far on costs its own line: what stands before the line has none. Where they stand close all is counted by parts.
 fn with_tabs(text: &[u8], start: usize, n: usize, from: Measure) -> Measure
     requires { ⌜ (start + n ≤ length (now text)) × (from .at ≤ from .best) × (from .at + 8 * n < 2 ^ 63) ⌝ }
     ensures { λ r. ⌜ r ≡ measure from (part (now (text .entry)) start n) ⌝ }
@@ -121,7 +122,7 @@ fn with_tabs(text: &[u8], start: usize, n: usize, from: Measure) -> Measure
     let mut i = 0;
     while i < n {
         let tab = find(text, start + i, n - i, 9);
-        if tab < 128 {
+        if tab < 1024 {
             break;
         }
         let before = past_last(text, start + i, tab);
@@ -130,7 +131,7 @@ fn with_tabs(text: &[u8], start: usize, n: usize, from: Measure) -> Measure
         m = by_columns(text, start + i + before, line, lines);
         i += before + line;
     }
-    by_columns(text, start + i, n - i, m)
+    by_parts(text, start + i, n - i, m)
 }
 
 // ---- lines and width

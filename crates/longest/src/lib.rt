@@ -20,7 +20,7 @@ pub fn larger(a: usize, b: usize) -> usize
     if a < b { b } else { a }
 }
 
-fn least(a: usize, b: usize) -> usize
+pub fn least(a: usize, b: usize) -> usize
     ensures { λ r. ⌜ r ≡ min a b ⌝ }
 {
     if a < b { a } else { b }
