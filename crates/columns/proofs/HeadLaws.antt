@@ -13,9 +13,6 @@ use Rattle.columns.specs.declared.Measure.{Measure}
 use Rattle.columns.specs.Measured.{oneOn, measure}
 use Rattle.columns.proofs.MeasureLaws.{column-most}
 
-count : ℕ → ℕ → Measure
-count a b = record { at = a; best = b }
-
 -- the column where the first line ends: at its line feed, or at the end
 abbrev pub headAt : ℕ → List ℕ → ℕ
 headAt at [] = at
@@ -87,6 +84,15 @@ head-far q a (x ∷ xs) = go (eqb x 10) refl (head-far q (columnAfter a x) xs)
     go false e h = ap (λ (k : ℕ). headAt k xs) (on-line-far q a x e) ∙ h
 
 -- ---- the first line, and what follows
+
+-- no column after a line feed is far
+pub after-most : (v : List ℕ) → after v .best ≤ 8 * length v
+after-most [] = omega arith
+after-most (x ∷ xs) = go (eqb x 10) (after-most xs)
+  where
+    go : (f : Bool) → after xs .best ≤ 8 * length xs → (if f then measure (record { at = 0; best = 0 }) xs else after xs) .best ≤ 8 * suc (length xs)
+    go true h = let b = best-most 0 0 xs in omega arith
+    go false h = omega arith
 
 -- the column before moves the first line alone
 pub record Split (a b : ℕ) (v : List ℕ) (m : Measure) : Type 0 where

@@ -15,7 +15,7 @@ use Rattle.ascii.proofs.PartLaws.{length-part, part-cons}
 use Rattle.columns.specs.declared.Measure.{Measure}
 use Rattle.columns.specs.Measured.{measure}
 use Rattle.columns.proofs.MeasureLaws.{measure-most}
-use Rattle.columns.proofs.HeadLaws.{headAt, after, Split, split, head-far, head-above, head-most, best-free, best-most}
+use Rattle.columns.proofs.HeadLaws.{headAt, after, Split, split, head-far, head-above, head-most, best-free, after-most}
 use Rattle.side.specs.Side.{SideBySide}
 use Rattle.lanes.specs.Lanes.{Near, Mapped, OnDown, Ready, OnEight, count, down}
 
@@ -23,17 +23,8 @@ use Rattle.lanes.specs.Lanes.{Near, Mapped, OnDown, Ready, OnEight, coun
 eights : (a : ℕ) (w : List ℕ) → headAt a w ≡ 8 * (a / 8) + headAt (a % 8) w
 eights a w = let e : a ≡ 8 * (a / 8) + a % 8 = omega arith in ap (λ (k : ℕ). headAt k w) e ∙ head-far (a / 8) (a % 8) w
 
--- after a line feed no column is far
-record Few (w : List ℕ) : Type 0 where
-  end : has 10 10 w ≡ true → after w .at ≤ 8 * length w
-  most : after w .best ≤ 8 * length w
-
-few : (w : List ℕ) → Few w
-few w =
-    let s = split 0 0 w (omega arith) in
-    let n = measure-most (count 0 0) w .narrow in
-    let b = best-most 0 0 w in
-    record { end = λ z. let e = s .past z in omega (arith, n, e); most = let m = s .most in omega (arith, b, m) }
+after-end : (w : List ℕ) → has 10 10 w ≡ true → after w .at ≤ 8 * length w
+after-end w z = let e = split 0 0 w (omega arith) .past z in let n = measure-most (count 0 0) w .narrow in omega (arith, n, e)
 
 -- the offset is no part of the column
 less-offset : (at k : ℕ) → at < 65408 → at % 32768 < 32640 → k < 72 → (at - at % 8 + k) % 32768 ≡ 8 * (at % 32768 / 8) + k
@@ -72,7 +63,7 @@ module _ (at top best c h g : ℕ) (w : List ℕ) (l : length w ≡ 8) (u : at �
       let m = told .most in
       let q = first in
       let a = head-above (at % 8) w in
-      let k = few w .most in
+      let k = after-most w in
       omega (arith, m, q, a, k)
 
   pub by-head : at - at % 8 + h % 128 ≡ headAt at w
@@ -96,7 +87,7 @@ module _ (at top best c h g : ℕ) (w : List ℕ) (l : length w ≡ 8) (u : at �
       go : (z : Bool) → has 10 10 w ≡ z → (if ltb c 128 then c else at - at % 8 + h % 128) ≡ measure (count at top) w .at
       go true z =
           let d = told .past z in
-          let k = few w .end z in
+          let k = after-end w z in
           let y : ltb c 128 ≡ true = lt-ltb c 128 (omega arith) in
           rw y (d ∙ sym (split at top w u .past z))
       go false z =
@@ -108,7 +99,7 @@ module _ (at top best c h g : ℕ) (w : List ℕ) (l : length w ≡ 8) (u : at �
   lane-top : max (at - at % 8 + h % 128) top ≡ measure (count at top) w .best
   lane-top =
       let x = by-head in
-      let k = few w .most in
+      let k = after-most w in
       let m = split at top w u .most in
       omega (arith, x, k, m)
 

@@ -22,7 +22,7 @@ pub record Mapped (n : ℕ) (f : ℕ → ℕ → ℕ) (was l : List ℕ) : Type 
   pub new : (k : ℕ) → k < n → getD l k 0 ≡ f k (getD was k 0)
   pub old : (k : ℕ) → n ≤ k → getD l k 0 ≡ getD was k 0
 
--- the first n lanes have gone on by a byte, those of t from index at on; m is the largest column, i the largest less the offset
+-- the first n lanes have gone on by a byte, those of t from index at on: c is the column, h the largest, g the largest less the offset
 pub record Stepped (t : List ℕ) (at n : ℕ) (c h g c' h' g' : List ℕ) : Type 0 where
   pub columns : Mapped n (λ k x. columnAfter x (getD t (at + k) 0)) c c'
   pub largest : Mapped n (λ k x. max (columnAfter (getD c k 0) (getD t (at + k) 0)) x) h h'

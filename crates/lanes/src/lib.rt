@@ -159,6 +159,7 @@ fn ends(at: &mut [u16; 16], c: &[u8; 16])
 
 // ---- eight bytes on
 
+// Eight bytes of each part: its column, the largest, and the largest without the offset.
 pub fn block(
     at: &mut [u16; 16],
     head: &mut [u16; 16],

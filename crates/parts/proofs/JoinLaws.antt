@@ -18,9 +18,10 @@ use Rattle.ascii.specs.Part.{part, has, before}
 use Rattle.ascii.proofs.PartLaws.{length-part, part-more, part-end}
 use Rattle.columns.specs.declared.Measure.{Measure}
 use Rattle.columns.specs.Measured.{measure}
-use Rattle.columns.proofs.HeadLaws.{headAt, after, split, head-far, head-most, best-most}
+use Rattle.columns.proofs.HeadLaws.{headAt, after, split, head-far, head-most, best-most, after-most}
 use Rattle.columns.proofs.MeasureLaws.{Counted, none-counted, counted-on, measure-both, measure-most}
-use Rattle.parts.specs.Parts.{Told, count}
+use Rattle.lanes.specs.Lanes.{count}
+use Rattle.parts.specs.Parts.{Told}
 
 -- ---- the first line
 
@@ -89,14 +90,6 @@ a-feed (x ∷ xs) h = go (eqb x 10) refl (a-feed xs)
     go : (f : Bool) → eqb x 10 ≡ f → (before 10 xs < length xs → has 10 10 xs ≡ true) → has 10 10 (x ∷ xs) ≡ true
     go true e g = rw e
     go false e g = let k : before 10 (x ∷ xs) ≡ suc (before 10 xs) = rw e in rw e (g (omega arith))
-
-after-most : (v : List ℕ) → after v .best ≤ 8 * length v
-after-most [] = omega arith
-after-most (x ∷ xs) = go (eqb x 10) (after-most xs)
-  where
-    go : (f : Bool) → after xs .best ≤ 8 * length xs → (if f then measure (record { at = 0; best = 0 }) xs else after xs) .best ≤ 8 * suc (length xs)
-    go true h = let b = best-most 0 0 xs in omega arith
-    go false h = omega arith
 
 -- ---- what is told of a part
 

@@ -2,11 +2,8 @@
 use mathlib.Core.Path.{_≡_}
 use mathlib.Core.List.{List}
 use Prim.Native.Nat.{ℕ}
-use Rattle.columns.specs.declared.Measure.{Measure}
 use Rattle.columns.specs.Measured.{measure}
-
-abbrev pub count : ℕ → ℕ → Measure
-count a b = record { at = a; best = b }
+use Rattle.lanes.specs.Lanes.{count}
 
 -- at is the column, above 32768 until a line feed comes; head the largest such column; best the largest from 0
 pub record Told (v : List ℕ) (at head best : ℕ) : Type 0 where
