@@ -116,7 +116,8 @@ fn side_by_side() -> Vec<Case> {
     let turns = turns.flat_map(|on| [in_turn(on, 520 - on, 0), in_turn(on, 2200 - on, 600)]);
     let lines = [1, 2, 6, 7, 8, 9, 30].into_iter();
     let lines = lines.flat_map(|n| [1, 2, 5, 15, 16, 17, 40].map(|count| tabbed_lines(n, count)));
-    about.chain(turns).chain((1..=40).map(every_column)).chain(lines).collect()
+    let runs = [520, 600, 4300].map(|n| after_tabs(1, n, 8 * n + 1));
+    about.chain(turns).chain((1..=40).map(every_column)).chain(lines).chain(runs).collect()
 }
 
 /// The longest line, or the last but one, ends about where a stretch does.
