@@ -11,7 +11,7 @@ use Rattle.rules.specs.Text.{columnAfter}
 use Rattle.ascii.specs.Part.{has, before}
 use Rattle.columns.specs.declared.Measure.{Measure}
 use Rattle.columns.specs.Measured.{oneOn, measure}
-use Rattle.columns.proofs.MeasureLaws.{column-most}
+use Rattle.columns.proofs.MeasureLaws.{column-most, measure-most}
 
 -- the column where the first line ends: at its line feed, or at the end
 abbrev pub headAt : ℕ → List ℕ → ℕ
@@ -125,3 +125,6 @@ split a b (x ∷ xs) h = go (eqb x 10) refl (split (columnAfter a x) (max (colum
           past = λ z. rw q (s .past (rw e at z));
           most = rw (o, q) (s .most ∙ (omega arith));
         }
+
+pub after-end : (w : List ℕ) → has 10 10 w ≡ true → after w .at ≤ 8 * length w
+after-end w z = let e = split 0 0 w (omega arith) .past z in let n = measure-most (record { at = 0; best = 0 }) w .narrow in omega (arith, n, e)

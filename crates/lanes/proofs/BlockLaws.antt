@@ -14,17 +14,13 @@ use Rattle.ascii.specs.Part.{part, has}
 use Rattle.ascii.proofs.PartLaws.{length-part, part-cons}
 use Rattle.columns.specs.declared.Measure.{Measure}
 use Rattle.columns.specs.Measured.{measure}
-use Rattle.columns.proofs.MeasureLaws.{measure-most}
-use Rattle.columns.proofs.HeadLaws.{headAt, after, Split, split, head-far, head-above, head-most, best-free, after-most}
+use Rattle.columns.proofs.HeadLaws.{headAt, after, Split, split, head-far, head-above, head-most, best-free, after-most, after-end}
 use Rattle.side.specs.Side.{SideBySide}
 use Rattle.lanes.specs.Lanes.{Near, Mapped, OnDown, Ready, OnEight, count, down}
 
 -- the eights of a column stand before the first line's end
 eights : (a : ℕ) (w : List ℕ) → headAt a w ≡ 8 * (a / 8) + headAt (a % 8) w
 eights a w = let e : a ≡ 8 * (a / 8) + a % 8 = omega arith in ap (λ (k : ℕ). headAt k w) e ∙ head-far (a / 8) (a % 8) w
-
-after-end : (w : List ℕ) → has 10 10 w ≡ true → after w .at ≤ 8 * length w
-after-end w z = let e = split 0 0 w (omega arith) .past z in let n = measure-most (count 0 0) w .narrow in omega (arith, n, e)
 
 -- the offset is no part of the column
 less-offset : (at k : ℕ) → at < 65408 → at % 32768 < 32640 → k < 72 → (at - at % 8 + k) % 32768 ≡ 8 * (at % 32768 / 8) + k

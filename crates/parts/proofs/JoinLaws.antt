@@ -18,7 +18,7 @@ use Rattle.ascii.specs.Part.{part, has, before}
 use Rattle.ascii.proofs.PartLaws.{length-part, part-more, part-end}
 use Rattle.columns.specs.declared.Measure.{Measure}
 use Rattle.columns.specs.Measured.{measure}
-use Rattle.columns.proofs.HeadLaws.{headAt, after, split, head-far, head-most, best-most, after-most}
+use Rattle.columns.proofs.HeadLaws.{headAt, after, split, head-far, head-most, best-most, after-most, after-end}
 use Rattle.columns.proofs.MeasureLaws.{Counted, none-counted, counted-on, measure-both, measure-most}
 use Rattle.lanes.specs.Lanes.{count}
 use Rattle.parts.specs.Parts.{Told}
@@ -90,6 +90,26 @@ a-feed (x ∷ xs) h = go (eqb x 10) refl (a-feed xs)
     go : (f : Bool) → eqb x 10 ≡ f → (before 10 xs < length xs → has 10 10 xs ≡ true) → has 10 10 (x ∷ xs) ≡ true
     go true e g = rw e
     go false e g = let k : before 10 (x ∷ xs) ≡ suc (before 10 xs) = rw e in rw e (g (omega arith))
+
+feedless : (v : List ℕ) → has 10 10 v ≡ false → before 10 v ≡ length v
+feedless [] h = refl
+feedless (x ∷ xs) h = go (eqb x 10) refl (feedless xs)
+  where
+    go : (f : Bool) → eqb x 10 ≡ f → (has 10 10 xs ≡ false → before 10 xs ≡ length xs) → before 10 (x ∷ xs) ≡ length (x ∷ xs)
+    go true e g = absurd (let z : true ≡ false = rw e at h in let y : _≡_ {A = ℕ} 0 1 = cc in omega arith)
+    go false e g = rw e (ap suc (g (rw e at h)))
+
+-- a column above the offset has met none
+pub by-above : (d : List ℕ) (start n at : ℕ) → (start + n ≤ length d) × (n ≤ 4064) → at ≡ measure (count 32768 32768) (part d start n) .at → 32768 ≤ at → (n ≡ before 10 (part d start n)) × (n ≤ n)
+by-above d start n at q e h = go (has 10 10 (part d start n)) refl
+  where
+    go : (f : Bool) → has 10 10 (part d start n) ≡ f → (n ≡ before 10 (part d start n)) × (n ≤ n)
+    go true z =
+        let l = length-part d start n (q .0) in
+        let a = after-end (part d start n) z in
+        let p = split 32768 32768 (part d start n) (omega arith) .past z in
+        absurd (omega (arith, q .1))
+    go false z = (sym (length-part d start n (q .0)) ∙ sym (feedless (part d start n) z), omega arith)
 
 -- ---- what is told of a part
 

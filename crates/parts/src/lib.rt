@@ -8,9 +8,22 @@ use longest::least;
 ghost use mathlib.Core.Path.{_≡_};
 ghost use Prim.Native.Nat.{_+_, _*_, _%_, _^_, _≤_, _<_};
 ghost use lib.ListN.{length};
-ghost use Rattle.ascii.specs.Part.{part};
+ghost use Rattle.ascii.specs.Part.{part, before};
 ghost use Rattle.columns.specs.Measured.{measure};
+ghost use Rattle.lanes.specs.Lanes.{count};
 ghost use Rattle.parts.specs.Parts.{Told};
+
+// Where a part's first line ends. A column above the offset has met no line feed.
+fn first_line(text: &[u8], start: usize, n: usize, at: u16) -> usize
+    requires { ⌜ (start + n ≤ length (now text)) × (n ≤ 4064) ⌝ }
+    requires { ⌜ at ≡ measure (count 32768 32768) (part (now text) start n) .at ⌝ }
+    ensures { λ r. ⌜ (r ≡ before 10 (part (now (text .entry)) start n)) × (r ≤ n) ⌝ }
+{
+    if 32768 <= at {
+        return n;
+    }
+    find(text, start, n, 10)
+}
 
 // A part after all that stands before it. What is told of the part by itself is told for a column of 0 before it; another one
 // moves the part's first line alone, and from its first tab on by eights.
@@ -19,7 +32,7 @@ fn joined(text: &[u8], start: usize, n: usize, m: Measure, at: u16, head: u16, b
     requires { ⌜ Told (part (now text) start n) at head best ⌝ }
     ensures { λ r. ⌜ r ≡ measure m (part (now (text .entry)) start n) ⌝ }
 {
-    let line = find(text, start, n, 10);
+    let line = first_line(text, start, n, at);
     let tab = find(text, start, line, 9);
     let mut end = m.at + line;
     if tab < line {

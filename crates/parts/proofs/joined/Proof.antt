@@ -1,3 +1,5 @@
+use mathlib.Core.Path.{ap}
+use Rattle.columns.specs.declared.Measure.{Measure}
 use mathlib.Core.Logic.{inl, inr, ⊎-elim}
 use native.Mathlib.Omega.{arith}
 use lib.Bits.{and-le-r}
@@ -6,11 +8,11 @@ use Rattle.parts.proofs.joined.Statement.{statement}
 use Rattle.parts.proofs.joined.Tie as tie
 use Rattle.parts.proofs.JoinLaws.{by-one-line, by-more-lines}
 
+first-line-requires : tie.Need-first-line-requires
+first-line-requires c κs = ((search needs, search needs), ap (λ (r : Measure). r .at) (c .before .pre .1 .measured))
+
 find-requires : tie.Need-find-requires
 find-requires c κs = search needs
-
-find-requires-2 : tie.Need-find-requires-2
-find-requires-2 c κs = search needs
 
 add-end : tie.Need-add-end
 add-end c = search needs
@@ -38,7 +40,7 @@ returns c =
     let i = c .before .before .if1 in
     let t = c .before .before .before .before in
     let a = t .before .before .before .args in
-    by-one-line (a .text .now) (a .start) (a .n) (a .m) (a .at) (a .head) (a .best) (t .before .find .result) (t .find2 .result) (i .end) _ (search needs) (search needs) (t .before .find .ensures) (t .find2 .ensures .0) (⊎-elim (λ w. inl (w .0 .taken, w .2)) (λ w. inr (w .0 .left, w .1)) (i .came)) (c .before .larger .ensures) (c .if2 .taken)
+    by-one-line (a .text .now) (a .start) (a .n) (a .m) (a .at) (a .head) (a .best) (t .before .first-line .result) (t .find .result) (i .end) _ (search needs) (search needs) (t .before .first-line .ensures) (t .find .ensures .0) (⊎-elim (λ w. inl (w .0 .taken, w .2)) (λ w. inr (w .0 .left, w .1)) (i .came)) (c .before .larger .ensures) (c .if2 .taken)
 
 larger-requires-2 : tie.Need-larger-requires-2
 larger-requires-2 c κs = search needs
@@ -48,14 +50,14 @@ returns-2 c =
     let i = c .before .before .before .if1 in
     let t = c .before .before .before .before .before in
     let a = t .before .before .before .args in
-    by-more-lines (a .text .now) (a .start) (a .n) (a .m) (a .at) (a .head) (a .best) (t .before .find .result) (t .find2 .result) (i .end) _ (search needs) (search needs) (t .before .find .ensures) (t .find2 .ensures .0) (⊎-elim (λ w. inl (w .0 .taken, w .2)) (λ w. inr (w .0 .left, w .1)) (i .came)) (c .before .before .larger .ensures) (c .before .if2 .left) _ (c .larger2 .ensures)
+    by-more-lines (a .text .now) (a .start) (a .n) (a .m) (a .at) (a .head) (a .best) (t .before .first-line .result) (t .find .result) (i .end) _ (search needs) (search needs) (t .before .first-line .ensures) (t .find .ensures .0) (⊎-elim (λ w. inl (w .0 .taken, w .2)) (λ w. inr (w .0 .left, w .1)) (i .came)) (c .before .before .larger .ensures) (c .before .if2 .left) _ (c .larger2 .ensures)
 
 pub joined-spec : {M : Type 1} → statement M
 joined-spec =
     tie.close
     (tie.spec
+    first-line-requires
     find-requires
-    find-requires-2
     add-end
     cast-end
     add-end-2
