@@ -9,7 +9,7 @@ use crate::random::Dice;
 use crate::sheet::*;
 
 const TEXT: &str = "(),;.:[]--*/x limit case end SELECT is  null-- fmt: off-- fmt: on\n \tas";
-const SHOWN: usize = 60;
+const SHOWN: usize = 8;
 /// What the long run of the bodies is made of: one byte, or some in no order.
 const FILLS: [&[u8]; 14] = [
     b"a",
