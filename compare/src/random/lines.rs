@@ -1,6 +1,7 @@
 //! Values of many lines: short ones, with one about as long as the longest here and there, and runs of
 //! tabs. The call passes what cannot be the longest line many bytes at a time, in stretches of 16, 192
-//! and 4,224 bytes, of which eight parts are looked at together.
+//! and 4,224 bytes, of which eight parts are looked at together; where tabs stand close it counts sixteen parts side by
+//! side.
 
 use super::Dice;
 use crate::sheet::*;
@@ -58,6 +59,18 @@ fn one_longer(dice: &mut Dice) -> Vec<u8> {
     lines.join(&b'\n')
 }
 
+/// Tabs, letters and line feeds in no order, each as often as the dice say.
+fn close_tabs(dice: &mut Dice) -> Vec<u8> {
+    let size = dice.pick(&[500, 511, 512, 513, 640, 1000, 2112, 4224, 4225, LONG]);
+    let (tabs, feeds) = (dice.pick(&[2, 5, 12, 40]), dice.pick(&[2, 6, 30, 200, 2000, 100_000]));
+    let byte = |dice: &mut Dice| match () {
+        () if dice.one_in(tabs) => b'\t',
+        () if dice.one_in(feeds) => b'\n',
+        () => b'x',
+    };
+    (0..size).map(|_| byte(dice)).chain([b'y']).collect()
+}
+
 /// Tabs in a row, about 16 and 32 of them, after some letters.
 fn tabs(dice: &mut Dice) -> Vec<u8> {
     let letters = dice.below(18);
@@ -96,7 +109,8 @@ pub fn lined(dice: &mut Dice, mut sheet: Sheet) -> Sheet {
         let at = dice.below(sheet.tokens.len());
         sheet.tokens[at].value.extend(lines_of(dice, LONG));
         if dice.one_in(2) {
-            sheet.tokens[at].value = one_longer(dice);
+            let alone = dice.pick(&[one_longer, close_tabs]);
+            sheet.tokens[at].value = alone(dice);
             sheet.tokens.swap(0, at);
             sheet.tokens.truncate(1);
         }

@@ -187,6 +187,16 @@ pub fn sheets() -> Vec<(String, Costly)> {
                 b' ',
             ),
         ),
+        (
+            "brackets in turn at depth".into(),
+            at_depth(
+                Options { indent: 0, ..wide },
+                120,
+                &[token(CLOSE, 1, 1), token(OPEN, 0, 1)],
+                text,
+                b' ',
+            ),
+        ),
         ("open brackets alone".into(), turns(flat, &[token(OPEN, 0, 1)], 128, text, b' ')),
         ("white tokens".into(), turns(plain, &[token(WHITESPACE, 9, 1)], 1024, "         ", b' ')),
         (
@@ -237,6 +247,16 @@ pub fn sheets() -> Vec<(String, Costly)> {
         "lines of 40 with tabs".into(),
         filled(&|at| if ends(at) { b'\n' } else { tab(at) }),
     ));
+    // Texts of 2 MB, which the Rust copies within the cache.
+    let mut some = |name: &str, bytes: &[u8]| {
+        let any: Vec<u8> = (0..LONG).map(|_| dice.pick(bytes)).collect();
+        let mut costly = filled(&|at| any[at]);
+        costly.tokens.truncate(128);
+        sheets.push((name.into(), costly));
+    };
+    some("64 words of lines", b"aaaaaaaaaaaa\n");
+    some("64 words of tabs and letters", b"\ta");
+    some("64 words of lines with tabs", b"\taaaaaaaaaaaaaaaaaaaaaaaaaaaaaaaaaaaaaaaaaaaaaaa\n");
     let lines = Costly {
         body: b"\n x".iter().copied().cycle().take(LONG as usize).collect(),
         tokens: vec![token(BLOCK_COMMENT, 0, LONG); 64],

@@ -10,6 +10,23 @@ use crate::sheet::*;
 
 const TEXT: &str = "(),;.:[]--*/x limit case end SELECT is  null-- fmt: off-- fmt: on\n \tas";
 const SHOWN: usize = 8;
+/// What the long run of the bodies is made of: one byte, or some in no order.
+const FILLS: [&[u8]; 14] = [
+    b"a",
+    b"A",
+    b" ",
+    b"\n",
+    b"\t",
+    b"-",
+    b"\ta",
+    b"\taaaaaaaaa",
+    b"\n\t",
+    b"a \n\t",
+    b"\taaaa\n",
+    b"aaaaaaaaaaaa\n",
+    b"\taaaaaaaaaaaaaaaaaaaaaaaa\n",
+    b"\taaaaaaaaaaaaaaaaaaaaaaaaaaaaaaaaaaaaaaaaaaaaaaa\n",
+];
 
 struct Found {
     turn: u64,
@@ -68,7 +85,7 @@ fn least(mut run: impl FnMut()) -> f64 {
     best
 }
 
-/// A place in the short text, or one that is long and of one byte, or nearly.
+/// A place in the short text, or one in the long run.
 fn place(dice: &mut Dice) -> [u32; 2] {
     let short = TEXT.len() as u32;
     let below = |dice: &mut Dice, n: u32| dice.below(n as usize) as u32;
@@ -94,7 +111,8 @@ fn sheet(dice: &mut Dice) -> (Costly, String) {
         top_level: limit(dice),
     };
     let mut body = TEXT.as_bytes().to_vec();
-    body.resize(LONG as usize, dice.pick(b"aA \n\t-"));
+    let fill = dice.pick(&FILLS);
+    body.resize_with(LONG as usize, || dice.pick(fill));
     let (odd, other) = (TEXT.len() + dice.below(LONG as usize - TEXT.len()), dice.pick(b"b \n"));
     body[odd] = other;
     let turn: Vec<[u32; 5]> = (0..1 + dice.below(6)).map(|_| any_token(dice)).collect();
@@ -110,8 +128,11 @@ fn sheet(dice: &mut Dice) -> (Costly, String) {
     let params = vec![[name[0], name[1], value[0], value[1]]; entries];
     let keeps = vec![place(dice); dice.pick(&[0, 1, 64])];
     let kinds: Vec<_> = turn.iter().map(|t| (NAMES[(t[0] & 31) as usize], t[2])).collect();
-    let about =
-        format!("{kinds:?} {depth} deep, {count} tokens, {entries} entries, {} keeps", keeps.len());
+    let about = format!(
+        "{kinds:?} {depth} deep, {count} tokens, {entries} entries, {} keeps, of {:?}",
+        keeps.len(),
+        String::from_utf8_lossy(fill)
+    );
     (Costly { options, mode, tokens, params, keeps, body }, about)
 }
 

@@ -1,6 +1,7 @@
 //! Texts of many lines, and of many tabs, whose lines and width are known. The call counts 4,224 bytes at a time. What
 //! cannot be the longest line it passes, looking at eight parts of 512 bytes together, and a tab that stands far on costs
-//! its own line: here the longest line, or a tab, stands where such a stretch or part begins or ends.
+//! its own line. Where tabs stand close it counts the columns of sixteen parts side by side, eight bytes at a time. Here
+//! the longest line, or a tab, stands where such a stretch or part begins or ends.
 
 use super::{Case, ROOM, of};
 use crate::model::Answer;
@@ -78,6 +79,47 @@ fn far_tabs() -> Vec<Case> {
     counts.into_iter().flat_map(about).collect()
 }
 
+/// A line of 18 columns so many bytes on, among lines of 8 with a tab each: 1,056 bytes, sixteen parts of 64.
+fn among_tabs(on: usize) -> Case {
+    let filler = |n: usize| "ab\t\n".repeat(n / 4) + &feeds(n % 4);
+    let value = filler(on) + "xxxxx\tyyy\tzz\n" + &filler(1056 - on - 13) + "c";
+    let lines = 1 + value.matches('\n').count();
+    at("a wider line among tabs", value, lines, 18)
+}
+
+/// One line of letters and tabs in turn, a tab after nine letters so many bytes on; then line feeds and a last letter.
+fn in_turn(on: usize, rest: usize, feed: usize) -> Case {
+    let value = "a\t".repeat(on) + "bbbbbbbbb\t" + &"a\t".repeat(rest) + "c" + &feeds(feed) + "d";
+    let width = 8 * on + 16 + 8 * rest + 1 + usize::from(feed == 0);
+    at("letters and tabs in turn, and nine letters", value, feed + 1, width)
+}
+
+/// A tab after so many letters, again and again in one line: the parts begin at every column.
+fn every_column(letters: usize) -> Case {
+    let count = 1100 / (letters + 1);
+    let value = ("a".repeat(letters) + "\t").repeat(count) + "b";
+    at("a tab after so many letters", value, 1, (letters / 8 + 1) * 8 * count + 1)
+}
+
+/// The same in lines of `count` tabs, and one line of a column more at the end.
+fn tabbed_lines(letters: usize, count: usize) -> Case {
+    let line = ("a".repeat(letters) + "\t").repeat(count);
+    let lines = 4400 / (line.len() + 1);
+    let value = (line.clone() + "\n").repeat(lines) + &line + "b";
+    at("lines with tabs", value, lines + 1, (letters / 8 + 1) * 8 * count + 1)
+}
+
+fn side_by_side() -> Vec<Case> {
+    let begins = (1..16).map(|part| 64 * part);
+    let about = begins.flat_map(|at| [13, 12, 8, 6, 5, 1, 0].map(|less| among_tabs(at - less)));
+    let turns = (20..=44).chain([255, 256, 257, 263, 264, 265]);
+    let turns = turns.flat_map(|on| [in_turn(on, 520 - on, 0), in_turn(on, 2200 - on, 600)]);
+    let lines = [1, 2, 6, 7, 8, 9, 30].into_iter();
+    let lines = lines.flat_map(|n| [1, 2, 5, 15, 16, 17, 40].map(|count| tabbed_lines(n, count)));
+    let runs = [520, 600, 4300].map(|n| after_tabs(1, n, 8 * n + 1));
+    about.chain(turns).chain((1..=40).map(every_column)).chain(lines).chain(runs).collect()
+}
+
 /// The longest line, or the last but one, ends about where a stretch does.
 fn about_the_end(first: usize) -> [Case; 3] {
     let line = |byte: &str, n: usize| byte.repeat(n) + "\n";
@@ -139,5 +181,6 @@ pub fn sheets() -> Vec<Case> {
     cases.extend(stretches());
     cases.extend(parts());
     cases.extend(far_tabs());
+    cases.extend(side_by_side());
     cases
 }

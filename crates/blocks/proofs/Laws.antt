@@ -16,16 +16,16 @@ use Rattle.rules.specs.declared.TokenKind.the-variants as kind
 use Rattle.rules.specs.declared.Part.{Part}
 use Rattle.rules.specs.declared.Part.the-variants as part
 use Rattle.rules.specs.declared.BlockInfo.{BlockInfo}
+use Rattle.rules.specs.declared.Start.{Start}
 use Rattle.rules.specs.declared.FormatOptions.{FormatOptions}
-use Rattle.rules.specs.Base.{orZero}
+use Rattle.rules.specs.Base.{if_then_else_, orZero}
 use Rattle.rules.specs.Tokens.{Token}
 use Rattle.rules.specs.Words.{tokenAt}
 use Rattle.rules.specs.Sheet.{tokenOf, tokensFrom, hereAt}
-use Rattle.rules.specs.InlineBlock.{partOf, isTop, isNewline, closesAt, levelAfter, measuredIn, measured, isForbiddenToken, forbid, buildFrom, unbuilt, buildInfo, isInlineBlock}
+use Rattle.rules.specs.InlineBlock.{partOf, isTop, isNewline, closesAt, levelAfter, startAfter, spanAfter, measuredIn, measured, isForbiddenToken, forbid, buildFrom, unbuilt, buildInfo, isInlineBlock}
 use Rattle.around.specs.Readable.{Readable}
 use Rattle.around.specs.Lists.{tokens-step, tokens-none, readable-length}
 use Rattle.blocks.specs.Built.{build-none, build-stop, build-go}
-use Rattle.blocks.specs.Topped.{toppedOf}
 
 -- ---- the part of a kind that the match leaves to its last arm
 
@@ -98,50 +98,33 @@ measuring-small s base n i b j q r =
 pub part-as : (s : List ℕ) (j : ℕ) (k : TokenKind) (p : Part) → k ≡ tokenAt s j .kind → p ≡ partOf k → p ≡ partOf (tokenAt s j .kind)
 part-as s j k p e f = f ∙ ap partOf e
 
--- the block with l bytes more, and at a top-level word with its span
-abbrev pub lengthened : ℕ → BlockInfo → BlockInfo
-lengthened l b =
-    record {
-      length = b .length + l;
-      level = b .level;
-      start = b .start;
-      «top_level_token_span» = b .«top_level_token_span»;
-      «has_forbidden_tokens» = b .«has_forbidden_tokens»;
-      «has_reserved_tokens» = b .«has_reserved_tokens»;
-    }
+-- a block by its facts
+abbrev pub info : ℕ → ℕ → Start → ℕ → Bool → Bool → BlockInfo
+info l v st sp f z = record { length = l; level = v; start = st; «top_level_token_span» = sp; «has_forbidden_tokens» = f; «has_reserved_tokens» = z }
 
-unfoldable pub worded : Bool → BlockInfo → BlockInfo
-worded true b = toppedOf b
-worded false b = b
+-- the facts of token j, of part p and l bytes long, after those of b
+pub record Next (p : Part) (l : ℕ) (b : BlockInfo) (v : ℕ) (st : Start) (sp : ℕ) (z : Bool) : Type 0 where
+  pub level-is : v ≡ levelAfter p (b .level)
+  pub start-is : st ≡ (if isTop p then startAfter (b .start) (b .level) (b .length + l) else b .start)
+  pub span-is : sp ≡ (if isTop p then spanAfter (b .start) (b .level) (b .length + l) (b .«top_level_token_span») else b .«top_level_token_span»)
+  pub reserved-is : z ≡ (b .«has_reserved_tokens» || isNewline p)
 
--- where the two arms meet
-pub by-word : {A B : Type 0} (p : Part) (x : Bool) (b t : BlockInfo) → x ≡ isTop p → A ⊎ B → (A → (x ≡ true) × (t ≡ toppedOf b)) → (B → (x ≡ false) × (t ≡ b)) → t ≡ worded (isTop p) b
-unfolding worded
-by-word p x b t top-is came f g = ⊎-elim (λ w. rw (← top-is, f w .0) (f w .1)) (λ w. rw (← top-is, g w .0) (g w .1)) came
+pub by-next : (p : Part) (l : ℕ) (b : BlockInfo) (v : ℕ) (st : Start) (sp : ℕ) (y z : Bool) → v ≡ levelAfter p (b .level) → st ≡ (if isTop p then startAfter (b .start) (b .level) (b .length + l) else b .start)
+    → sp ≡ (if isTop p then spanAfter (b .start) (b .level) (b .length + l) (b .«top_level_token_span») else b .«top_level_token_span») → y ≡ isNewline p → z ≡ (b .«has_reserved_tokens» || y) → Next p l b v st sp z
+by-next p l b v st sp y z e f g h k = record { level-is = e; start-is = f; span-is = g; reserved-is = rw h at k }
 
-worded-level : (q : Bool) (b : BlockInfo) → worded q b .level ≡ b .level
-unfolding worded
-worded-level true b = refl
-worded-level false b = refl
-
--- the other marks of t, which is b with its length and its word, make it measured
-measured-from : (p : Part) (l : ℕ) (b t : BlockInfo) (v : ℕ) (y z : Bool) → t ≡ worded (isTop p) (lengthened l b) → v ≡ levelAfter p (t .level) → y ≡ isNewline p → z ≡ (t .«has_reserved_tokens» || y)
+-- they make it measured
+measured-from : (p : Part) (l : ℕ) (b : BlockInfo) (v : ℕ) (st : Start) (sp : ℕ) (z : Bool) → Next p l b v st sp z
     → record {
-      length = t .length;
+      length = b .length + l;
       level = v;
-      start = t .start;
-      «top_level_token_span» = t .«top_level_token_span»;
-      «has_forbidden_tokens» = t .«has_forbidden_tokens»;
+      start = st;
+      «top_level_token_span» = sp;
+      «has_forbidden_tokens» = b .«has_forbidden_tokens»;
       «has_reserved_tokens» = z;
     }
     ≡ measuredIn p l b
-unfolding worded
-measured-from part.Top l b t v y z e f g h = rw (f, h, g, e)
-measured-from part.Newline l b t v y z e f g h = rw (f, h, g, e)
-measured-from part.Open l b t v y z e f g h = rw (f, h, g, e)
-measured-from part.Close l b t v y z e f g h = rw (f, h, g, e)
-measured-from part.Comment l b t v y z e f g h = rw (f, h, g, e)
-measured-from part.Rest l b t v y z e f g h = rw (f, h, g, e)
+measured-from p l b v st sp z e = rw (e .level-is, e .start-is, e .span-is, e .reserved-is)
 
 module _ (s : List ℕ) (base n i : ℕ) (b : BlockInfo) (j : ℕ) (r : Measuring s base n i b j) where
   pub length-room : (l : ℕ) → Readable s base n → j < n → l ≡ length (tokenOf s base j .value) → b .length + l < 4294967296
@@ -150,16 +133,11 @@ module _ (s : List ℕ) (base n i : ℕ) (b : BlockInfo) (j : ℕ) (r : Measurin
       let k = readable-length s base n j l q h e in
       omega arith
 
-  pub level-room : (c : Bool) (l : ℕ) (t : BlockInfo) → Readable s base n → t ≡ worded c (lengthened l b) → t .level < 65536
-  level-room c l t q e =
-      let m = measuring-small s base n i b j q r in
-      let k = worded-level c (lengthened l b) in
-      let f : t .level ≡ worded c (lengthened l b) .level = ap (λ (u : BlockInfo). u .level) e in
-      omega arith
+  pub level-room : Readable s base n → b .level < 65536
+  level-room q = let m = measuring-small s base n i b j q r in omega arith
 
-  module _ (h : j < n) (k : TokenKind) (p : Part) (l v : ℕ) (t : BlockInfo) (x y z : Bool)
-      (kind-is : k ≡ tokenAt s j .kind) (part-is : p ≡ partOf k) (len-is : l ≡ length (tokenOf s base j .value))
-      (word-is : t ≡ worded (isTop p) (lengthened l b)) (level-is : v ≡ levelAfter p (t .level)) (newline-is : y ≡ isNewline p) (reserved-is : z ≡ (t .«has_reserved_tokens» || y)) (closes-is : x ≡ closesAt p v) where
+  module _ (h : j < n) (k : TokenKind) (p : Part) (l v : ℕ) (st : Start) (sp : ℕ) (x z : Bool)
+      (kind-is : k ≡ tokenAt s j .kind) (part-is : p ≡ partOf k) (len-is : l ≡ length (tokenOf s base j .value)) (facts : Next p l b v st sp z) (closes-is : x ≡ closesAt p v) where
     left : buildFrom (tokenOf s base j ∷ tokensFrom s base (j + 1) (n - (j + 1))) b ≡ blockAt s base n i
     left = rw (tokens-step s base j n h) at (r .same-end)
 
@@ -167,11 +145,11 @@ module _ (s : List ℕ) (base n i : ℕ) (b : BlockInfo) (j : ℕ) (r : Measurin
     next : BlockInfo
     next =
         record {
-          length = t .length;
+          length = b .length + l;
           level = v;
-          start = t .start;
-          «top_level_token_span» = t .«top_level_token_span»;
-          «has_forbidden_tokens» = t .«has_forbidden_tokens»;
+          start = st;
+          «top_level_token_span» = sp;
+          «has_forbidden_tokens» = b .«has_forbidden_tokens»;
           «has_reserved_tokens» = z;
         }
 
@@ -180,7 +158,7 @@ module _ (s : List ℕ) (base n i : ℕ) (b : BlockInfo) (j : ℕ) (r : Measurin
 
     next-is : next ≡ measuredIn p l b
     unfolding next
-    next-is = measured-from p l b t v y z word-is level-is newline-is reserved-is
+    next-is = measured-from p l b v st sp z facts
 
     next-measured : next ≡ measured (tokenOf s base j) b
     next-measured = next-is ∙ rw (len-is, part-here)
@@ -195,11 +173,11 @@ module _ (s : List ℕ) (base n i : ℕ) (b : BlockInfo) (j : ℕ) (r : Measurin
 
     pub measuring-closes : x ≡ true
         → record {
-          length = t .length;
+          length = b .length + l;
           level = v;
-          start = t .start;
-          «top_level_token_span» = t .«top_level_token_span»;
-          «has_forbidden_tokens» = t .«has_forbidden_tokens»;
+          start = st;
+          «top_level_token_span» = sp;
+          «has_forbidden_tokens» = b .«has_forbidden_tokens»;
           «has_reserved_tokens» = z;
         }
         ≡ blockAt s base n i
@@ -219,13 +197,13 @@ module _ (s : List ℕ) (base n i : ℕ) (b : BlockInfo) (j : ℕ) (r : Measurin
               ∙ sym (build-go (tokenOf s base j) (tokensFrom s base (j + 1) (n - (j + 1))) b (closes-as ∙ d)) ∙ left;
         }
 
-    pub measuring-turns : (f g : Bool) → Readable s base n → x ≡ false → f ≡ isForbiddenToken (tokenOf s base j) → g ≡ (t .«has_forbidden_tokens» || f)
+    pub measuring-turns : (f g : Bool) → Readable s base n → x ≡ false → f ≡ isForbiddenToken (tokenOf s base j) → g ≡ (b .«has_forbidden_tokens» || f)
         → Measuring s base n i
         (record {
-          length = t .length;
+          length = b .length + l;
           level = v;
-          start = t .start;
-          «top_level_token_span» = t .«top_level_token_span»;
+          start = st;
+          «top_level_token_span» = sp;
           «has_forbidden_tokens» = g;
           «has_reserved_tokens» = z;
         })

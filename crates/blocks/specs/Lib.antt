@@ -1,2 +1,1 @@
-pub mod Topped
 pub mod Built

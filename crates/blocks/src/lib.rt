@@ -3,12 +3,12 @@ ghost use mathlib.Core.Path.{_≡_};
 ghost use mathlib.Core.Bool.{_||_};
 ghost use mathlib.Core.List.{_∷_};
 ghost use Prim.Native.Nat.{_-_, _<_, max};
+ghost use Rattle.rules.specs.Base.{if_then_else_};
 ghost use Rattle.rules.specs.Words.{tokenAt};
 ghost use Rattle.rules.specs.Sheet.{tokenOf, hereAt};
 ghost use Rattle.rules.specs.InlineBlock.{partOf, isTop, isNewline, isComment, levelAfter, closesAt, startAfter, spanAfter, isForbiddenToken, buildInfo, isInlineBlock};
 ghost use Rattle.tokens.specs.Placed.{Within};
 ghost use Rattle.around.specs.Readable.{Readable};
-ghost use Rattle.blocks.specs.Topped.{toppedOf};
 use ahead::less;
 use ahead::or_zero;
 use around::is_byte;
@@ -146,21 +146,23 @@ fn span_after(start: Start, level: u32, len: u32, best: u32) -> u32
     }
 }
 
-// A top-level word of the block, up to which the length is counted.
-fn topped(b: BlockInfo) -> BlockInfo
-    ensures { λ r. ⌜ r ≡ toppedOf b ⌝ }
+// At a top-level word, up to which the length is counted.
+fn start_at(part: Part, start: Start, level: u32, len: u32) -> Start
+    ensures { λ r. ⌜ r ≡ (if isTop part then startAfter start level len else start) ⌝ }
 {
-    let length = b.length;
-    let level = b.level;
-    let start = b.start;
-    BlockInfo {
-        length,
-        level,
-        start: start_after(start, level, length),
-        top_level_token_span: span_after(start, level, length, b.top_level_token_span),
-        has_forbidden_tokens: b.has_forbidden_tokens,
-        has_reserved_tokens: b.has_reserved_tokens,
+    if is_top(part) {
+        return start_after(start, level, len);
     }
+    start
+}
+
+fn span_at(part: Part, start: Start, level: u32, len: u32, best: u32) -> u32
+    ensures { λ r. ⌜ r ≡ (if isTop part then spanAfter start level len best else best) ⌝ }
+{
+    if is_top(part) {
+        return span_after(start, level, len, best);
+    }
+    best
 }
 
 // ---- the block
@@ -186,39 +188,49 @@ pub fn is_forbidden_token(sheet: &[u8], base: usize, i: usize, part: Part) -> bo
 }
 
 // The tokens from the opening bracket i of n on. The close that ends the block is measured, and not tested for `;`.
-// b changes in place: handed whole to a function and back it would be copied for each token.
+// A number for each fact: a block that changes in place stays in memory, and takes three times as long.
 pub fn build_info(sheet: &[u8], base: usize, n: usize, i: usize) -> BlockInfo
     requires { ⌜ Readable (now sheet) base n ⌝ }
     requires { ⌜ i < n ⌝ }
     ensures { λ r.
         ⌜ r ≡ buildInfo (hereAt (now (sheet .entry)) base n i .token ∷ hereAt (now (sheet .entry)) base n i .after) ⌝ }
 {
-    let mut b = BlockInfo {
-        length: 0,
-        level: 0,
-        start: Start::Nowhere,
-        top_level_token_span: 0,
-        has_forbidden_tokens: false,
-        has_reserved_tokens: false,
-    };
+    let mut length: u32 = 0;
+    let mut level: u32 = 0;
+    let mut start = Start::Nowhere;
+    let mut span: u32 = 0;
+    let mut forbidden = false;
+    let mut reserved = false;
     let mut j = i;
     while j < n {
         let part = part_of(kind_at(sheet, j));
-        b.length += value_len(sheet, base, j);
-        if is_top(part) {
-            b = topped(b);
-        }
-        let level = level_after(part, b.level);
-        b.level = level;
-        b.has_reserved_tokens = found_yet(b.has_reserved_tokens, is_newline(part));
+        length += value_len(sheet, base, j);
+        span = span_at(part, start, level, length, span);
+        start = start_at(part, start, level, length);
+        level = level_after(part, level);
+        reserved = found_yet(reserved, is_newline(part));
         if closes(part, level) {
-            return b;
+            return BlockInfo {
+                length,
+                level,
+                start,
+                top_level_token_span: span,
+                has_forbidden_tokens: forbidden,
+                has_reserved_tokens: reserved,
+            };
         }
-        let forbidden = is_forbidden_token(sheet, base, j, part);
-        b.has_forbidden_tokens = found_yet(b.has_forbidden_tokens, forbidden);
+        let forbids = is_forbidden_token(sheet, base, j, part);
+        forbidden = found_yet(forbidden, forbids);
         j += 1;
     }
-    b
+    BlockInfo {
+        length,
+        level,
+        start,
+        top_level_token_span: span,
+        has_forbidden_tokens: forbidden,
+        has_reserved_tokens: reserved,
+    }
 }
 
 pub fn is_inline_block(options: FormatOptions, info: BlockInfo) -> bool

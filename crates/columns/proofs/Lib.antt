@@ -1,1 +1,2 @@
 pub mod MeasureLaws
+pub mod HeadLaws

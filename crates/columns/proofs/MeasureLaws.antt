@@ -30,25 +30,26 @@ to-stop at =
     let b = and-le-l (at % 8) 7 in
     rw (e, or-zero-r (at / 8)) at o ∙ (omega arith)
 
-pub stop-fits : (at b s : ℕ) → at < 2 ^ 63 → s ≡ (if eqb b 9 then 7 else 0) → bitOr at s + 1 < 2 ^ 64
-stop-fits at b s h e = let l = or-lt 63 at s h (rw e (go (eqb b 9))) in omega arith
+-- in w bits, where the next multiple of eight fits
+pub stop-fits : (w at b s : ℕ) → at / 8 * 8 + 8 < 2 ^ w → s ≡ (if eqb b 9 then 7 else 0) → bitOr at s + 1 < 2 ^ w
+stop-fits w at b s h e = rw e (go (eqb b 9))
   where
-    go : (t : Bool) → (if t then 7 else 0) < 2 ^ 63
-    go true = omega arith
-    go false = omega arith
+    go : (t : Bool) → bitOr at (if t then 7 else 0) + 1 < 2 ^ w
+    go true = let e = to-stop at in omega arith
+    go false = rw (or-zero-r at) (omega arith)
 
-pub by-column : (at b s k : ℕ) → at < 2 ^ 63 → s ≡ (if eqb b 9 then 7 else 0) → k ≡ (if eqb b 10 then 0 else 2 ^ 64 - 1) → bitAnd (bitOr at s + 1) k ≡ columnAfter at b
-by-column at b s k h es ek = rw (es, ek) (go (eqb b 10) (eqb b 9))
+pub by-column : (w at b s k : ℕ) → at / 8 * 8 + 8 < 2 ^ w → s ≡ (if eqb b 9 then 7 else 0) → k ≡ (if eqb b 10 then 0 else 2 ^ w - 1) → bitAnd (bitOr at s + 1) k ≡ columnAfter at b
+by-column w at b s k h es ek = rw (es, ek) (go (eqb b 10) (eqb b 9))
   where
-    whole : (x : ℕ) → x < 2 ^ 64 → bitAnd x (2 ^ 64 - 1) ≡ x
-    whole x l = and-mask x 64 ∙ mod-eq-of-lt l
+    whole : (x : ℕ) → x < 2 ^ w → bitAnd x (2 ^ w - 1) ≡ x
+    whole x l = and-mask x w ∙ mod-eq-of-lt l
 
-    go : (f t : Bool) → bitAnd (bitOr at (if t then 7 else 0) + 1) (if f then 0 else 2 ^ 64 - 1) ≡ (if f then 0 else if t then (at / 8 + 1) * 8 else suc at)
+    go : (f t : Bool) → bitAnd (bitOr at (if t then 7 else 0) + 1) (if f then 0 else 2 ^ w - 1) ≡ (if f then 0 else if t then (at / 8 + 1) * 8 else suc at)
     go true t = and-zero-r (bitOr at (if t then 7 else 0) + 1)
     go false true = let e = to-stop at in whole (bitOr at 7 + 1) (omega arith) ∙ (omega arith)
     go false false = rw (or-zero-r at) (whole (at + 1) (omega arith) ∙ add-one at)
 
-column-most : (at x : ℕ) → columnAfter at x ≤ at + 8
+pub column-most : (at x : ℕ) → columnAfter at x ≤ at + 8
 column-most at x = go (eqb x 10) (eqb x 9)
   where
     go : (f t : Bool) → (if f then 0 else if t then (at / 8 + 1) * 8 else suc at) ≤ at + 8
@@ -70,7 +71,7 @@ measure-most m (x ∷ xs) =
     let c = column-most (m .at) x in
     record { narrow = omega (arith, k .narrow); under = λ h. k .under (omega arith) }
 
-measure-both : (m : Measure) (v w : List ℕ) → measure m (v ++ w) ≡ measure (measure m v) w
+pub measure-both : (m : Measure) (v w : List ℕ) → measure m (v ++ w) ≡ measure (measure m v) w
 measure-both m [] w = refl
 measure-both m (x ∷ xs) w = measure-both (oneOn m x) xs w
 

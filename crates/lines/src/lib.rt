@@ -7,6 +7,7 @@ use longest::equal;
 use longest::larger;
 use longest::longest_line;
 use longest::past_last;
+use parts::by_parts;
 ghost use mathlib.Core.Path.{_≡_};
 ghost use mathlib.Core.Bool.{false};
 ghost use Prim.Native.Nat.{_+_, _*_, _^_, _≤_, _<_};
@@ -112,7 +113,7 @@ fn without_tabs(text: &[u8], start: usize, n: usize, m: Measure) -> Measure
 
 // ---- with tabs
 
-// A tab far on costs its own line: what stands before the line has none. Where they stand close all is counted by columns.
+// A tab far on costs its own line: what stands before the line has none. Where they stand close all is counted by parts.
 fn with_tabs(text: &[u8], start: usize, n: usize, from: Measure) -> Measure
     requires { ⌜ (start + n ≤ length (now text)) × (from .at ≤ from .best) × (from .at + 8 * n < 2 ^ 63) ⌝ }
     ensures { λ r. ⌜ r ≡ measure from (part (now (text .entry)) start n) ⌝ }
@@ -121,7 +122,7 @@ fn with_tabs(text: &[u8], start: usize, n: usize, from: Measure) -> Measure
     let mut i = 0;
     while i < n {
         let tab = find(text, start + i, n - i, 9);
-        if tab < 128 {
+        if tab < 1024 {
             break;
         }
         let before = past_last(text, start + i, tab);
@@ -130,7 +131,7 @@ fn with_tabs(text: &[u8], start: usize, n: usize, from: Measure) -> Measure
         m = by_columns(text, start + i + before, line, lines);
         i += before + line;
     }
-    by_columns(text, start + i, n - i, m)
+    by_parts(text, start + i, n - i, m)
 }
 
 // ---- lines and width
@@ -163,8 +164,25 @@ fn last_stretch(text: &[u8], start: usize, n: usize, k: Marks, m: Measure) -> us
     longest_from(text, start, n, m)
 }
 
-// A stretch is 22 blocks of marks: so short that it is still near when it is read again, and longer than a page of memory, so that
-// the next bytes are fetched while these are counted.
+// How long the next stretch is: any length gives the same numbers. It is 22 blocks of marks, so short that it is still near when it
+// is read again, and longer than a page of memory, so that the next bytes are fetched while these are counted; and four times as
+// long where tabs stand close, so that fewer parts are joined.
+fn next_length(text: &[u8], start: usize, n: usize, k: Marks) -> usize
+    requires { ⌜ start + n ≤ length (now text) ⌝ }
+    ensures { λ r. ⌜ 0 < r ⌝ }
+{
+    if k.tab == 0 {
+        return 4224;
+    }
+    if n < 16896 {
+        return 4224;
+    }
+    if find(text, start, 1024, 9) < 1024 {
+        return 16896;
+    }
+    4224
+}
+
 pub fn lines_width(text: &[u8], len: usize) -> Size
     requires { ⌜ (len ≤ length (now text)) × (len < 2 ^ 60) ⌝ }
     ensures { λ r. ⌜ r ≡ sizeOf (take len (now (text .entry))) ⌝ }
@@ -175,11 +193,13 @@ pub fn lines_width(text: &[u8], len: usize) -> Size
     let mut m = Measure { at: 0, best: 0 };
     let mut lines = 1;
     let mut i = 0;
-    while 4224 < len - i {
-        let k = all_marks(text, i, 4224);
-        m = stretch(text, i, 4224, k, m);
+    let mut n = 4224;
+    while n < len - i {
+        let k = all_marks(text, i, n);
+        m = stretch(text, i, n, k, m);
         lines += k.feeds;
-        i += 4224;
+        i += n;
+        n = next_length(text, i, len - i, k);
     }
     let k = all_marks(text, i, len - i);
     Size {

@@ -1,6 +1,6 @@
 // The longest line in bytes. Where a line of `best` bytes is known, one of at most `best` bytes changes nothing: if a line feed
-// stands among the next best + 1 bytes, all up to it may be passed. There are four ways to pass many bytes at once, each for
-// texts of another kind; a line that none of them passes is measured.
+// stands among the next best + 1 bytes, all up to it may be passed. Where lines are short a whole stretch is passed at once, else
+// all up to the last such line feed; a line that has none is measured.
 use ascii::find;
 use ascii::in_run;
 ghost use mathlib.Core.Path.{_≡_};
@@ -20,7 +20,7 @@ pub fn larger(a: usize, b: usize) -> usize
     if a < b { b } else { a }
 }
 
-fn least(a: usize, b: usize) -> usize
+pub fn least(a: usize, b: usize) -> usize
     ensures { λ r. ⌜ r ≡ min a b ⌝ }
 {
     if a < b { a } else { b }

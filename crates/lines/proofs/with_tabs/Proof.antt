@@ -85,14 +85,14 @@ loop-again c =
     let a = c .before .before .before .before .before .before .before .before .before .args in
     by-tab-line (a .text .now) (a .start) (a .n) (a .from) (l .i) (l .m) (search needs) (l .inv) _ _ (c .before .before .without-tabs .ensures) _ _ (search needs) (c .by-columns .ensures)
 
-add-by-columns-3 : tie.Need-add-by-columns-3 Inv-loop μ-loop
-add-by-columns-3 c = search needs
+add-by-parts : tie.Need-add-by-parts Inv-loop μ-loop
+add-by-parts c = search needs
 
-sub-by-columns : tie.Need-sub-by-columns Inv-loop μ-loop
-sub-by-columns c = search needs
+sub-by-parts : tie.Need-sub-by-parts Inv-loop μ-loop
+sub-by-parts c = search needs
 
-by-columns-requires-2 : tie.Need-by-columns-requires-2 Inv-loop μ-loop
-by-columns-requires-2 c κs = search needs
+by-parts-requires : tie.Need-by-parts-requires Inv-loop μ-loop
+by-parts-requires c κs = search needs
 
 returns : tie.Need-returns Inv-loop μ-loop
 returns c = search (needs, by-rest)
@@ -125,7 +125,7 @@ with-tabs-spec =
     add-i-2
     loop-less
     loop-again
-    add-by-columns-3
-    sub-by-columns
-    by-columns-requires-2
+    add-by-parts
+    sub-by-parts
+    by-parts-requires
     returns)
