@@ -1,7 +1,7 @@
 // The columns of sixteen parts of a text, sixteen bytes on. A lane is a part's column. It stands above an offset, a multiple of
 // eight, until a line feed comes: so the largest tells of what stands before the first line feed. Bytes serve for sixteen steps,
-// with 120 for the offset; between them a lane is wider, with 32768. A line that begins and ends within the sixteen bytes is at
-// most 120 columns wide, and is not looked at: such a line is known.
+// with 120 for the offset; between them a lane is wider, with 32768. What begins and ends within sixteen bytes has at most 120
+// columns, and is passed over: a line as wide is known.
 use side::side_by_side;
 use steps::add;
 use steps::codes;
