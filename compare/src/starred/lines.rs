@@ -138,7 +138,8 @@ fn wide_lines() -> Vec<Case> {
     let shifts = |begin: usize| [0, 1, 7, 8, 9, 15, 16, 17].map(|more| begin + more);
     let begins = [0, 304, 8 * 304 - 16, 15 * 304 - 8].into_iter().flat_map(shifts);
     let known = |on: usize| {
-        let pairs = [111, 112, 119, 120, 121].into_iter().flat_map(|n| [13, 14, 15, 16].map(|t| (n, t)));
+        let pairs =
+            [111, 112, 119, 120, 121].into_iter().flat_map(|n| [13, 14, 15, 16].map(|t| (n, t)));
         pairs.map(move |(known, tabs)| after_known(known, tabs, on))
     };
     let widths = [118, 119, 120, 121, 127, 128, 129, 135, 136, 247, 248, 249, 255, 256, 257, 384];
@@ -150,16 +151,18 @@ fn wide_lines() -> Vec<Case> {
     begins.flat_map(known).chain(wide).collect()
 }
 
-/// The same value three times, a wide line so many bytes on, and the value three times more: a text of more than 65,024 bytes
+/// The same value three times, a wide line so many bytes on, and the value again and again: a text of more than 65,024 bytes
 /// after the first stretch. The value begins with a line of `known` columns.
 fn in_long(known: usize, line: &str, width: usize, on: usize) -> Case {
     let value = "x".repeat(known) + "\n" + &tabbed(on / 3 - known - 3) + "c";
     let wide = feeds(1 + on % 3) + line + "\nc";
-    let values = [&value, &value, &value, &wide, &value, &value, &value].map(String::as_str);
+    let mut values = vec![value.as_str(); 4 + 75_000 / value.len()];
+    values.insert(3, &wide);
     let text = values.join(" ");
     let lines = 1 + text.matches('\n').count();
+    let tokens: Vec<_> = values.iter().map(|value| (WORD, *value)).collect();
     let wanted = Answer::Laid { text: text.into(), lines, width };
-    Case { name: "a wide line in a long text", sheet: of(&values.map(|v| (WORD, v))), room: 1 << 18, wanted }
+    Case { name: "a wide line in a long text", sheet: of(&tokens), room: 1 << 18, wanted }
 }
 
 /// Their values share places.
