@@ -196,10 +196,10 @@ enum { LENGTH = sizeof QUERY / sizeof QUERY[0] };
 static void texts(void)
 {
     static const struct token open = {OPEN, "("}, nested[] = {{OPEN, "("}, {TOP_LEVEL, "SELECT"}};
-    /* long enough for every way that lines and width are counted; a tab is far on, and many stand close */
+    /* long enough for every way that lines and width are counted; a tab is far on, many stand close, and a wide line among them */
     static char lines[9001];
     for (size_t i = 0; i < sizeof lines - 1; i++)
-        lines[i] = i == 6000 || (i > 8000 && i % 4 == 0) ? '\t' : i % 3 == 2 ? '\n' : 'a';
+        lines[i] = i == 6000 || (i > 7000 && i % 4 == 0) ? '\t' : i % 3 == 2 && (i < 7400 || i > 7700) ? '\n' : 'a';
     const struct token many = {WORD, lines};
     build(QUERY, LENGTH, 0);
     show("the Rust's head alone", 0);

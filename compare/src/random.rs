@@ -339,7 +339,7 @@ pub fn encode(dice: &mut Dice, sheet: &Sheet) -> Vec<u8> {
     })
 }
 
-fn shared(body: &[u8], value: &[u8]) -> Option<u32> {
+pub fn shared(body: &[u8], value: &[u8]) -> Option<u32> {
     body.windows(value.len()).position(|part| part == value).map(|start| start as u32)
 }
 

@@ -16,6 +16,7 @@ use crate::check::{columns, measured};
 use crate::converted::WITHDRAWN;
 use crate::model::{self, Answer, Refusal};
 use crate::oracle::{self, Panic};
+use crate::random;
 use crate::sheet::*;
 use crate::show;
 
@@ -393,6 +394,7 @@ pub fn run() -> bool {
     let further = count(further_parts().into_iter().flatten().collect(), "further sheets");
     let comments = count(comment_sheets(), "line comments at word 7 = 0, 1, 2");
     let tabs = count(tab_sheets(), "tabs") && count(lines::sheets(), "many lines");
+    let long = count_by(&lines::long_sheets(), "long texts", &mut once);
     let words = count(words::sheets(), "words of blocks");
     let rows = rows::run();
     let compacted = compact::run();
@@ -401,7 +403,7 @@ pub fn run() -> bool {
     let converted = convert::run();
     let judged = judge::run();
     let later = rows && compacted && room && mended && converted && judged;
-    sheets && further && comments && tabs && words && later && head()
+    sheets && further && comments && tabs && long && words && later && head()
 }
 
 /// The two heads of the library, where it is linked.
@@ -418,13 +420,22 @@ fn head() -> bool {
 }
 
 fn count(cases: Vec<Case>, what: &str) -> bool {
-    let right = cases.iter().filter(|case| is_right(case)).count();
+    count_by(&cases, what, &mut in_turn)
+}
+
+fn count_by(cases: &[Case], what: &str, lay: &mut Layer) -> bool {
+    let right = cases.iter().filter(|case| is_right(case, lay)).count();
     println!("{what}: {right} of {} right", cases.len());
     right == cases.len()
 }
 
-fn is_right(case: &Case) -> bool {
-    let bytes = case.sheet.encode(&mut in_turn);
+/// A value that stands in the bodies already stands there once.
+fn once(body: &mut Vec<u8>, value: &[u8]) -> u32 {
+    random::shared(body, value).unwrap_or_else(|| in_turn(body, value))
+}
+
+fn is_right(case: &Case, lay: &mut Layer) -> bool {
+    let bytes = case.sheet.encode(lay);
     let model = model::answer(&bytes, case.room);
     let on = model::trial_with_on(&bytes, case.room).answer;
     let models = model == asked(case) && on == case.wanted;

@@ -1,7 +1,8 @@
 //! Texts of many lines, and of many tabs, whose lines and width are known. The call counts 4,224 bytes at a time. What
 //! cannot be the longest line it passes, looking at eight parts of 512 bytes together, and a tab that stands far on costs
-//! its own line. Where tabs stand close it counts the columns of sixteen parts side by side, eight bytes at a time. Here
-//! the longest line, or a tab, stands where such a stretch or part begins or ends.
+//! its own line. Where tabs stand close it counts the columns of sixteen parts side by side, sixteen bytes at a time, of up
+//! to 65,024 bytes; what is within sixteen bytes it looks at only until a line of 120 columns is known. Here the longest
+//! line, or a tab, stands where such a stretch or part begins or ends, and is about as wide as that.
 
 use super::{Case, ROOM, of};
 use crate::model::Answer;
@@ -109,6 +110,75 @@ fn tabbed_lines(letters: usize, count: usize) -> Case {
     at("lines with tabs", value, lines + 1, (letters / 8 + 1) * 8 * count + 1)
 }
 
+/// Lines of 8 columns with a tab each.
+fn tabbed(bytes: usize) -> String {
+    "ab\t\n".repeat(bytes / 4) + &feeds(bytes % 4)
+}
+
+fn counted(name: &'static str, value: String, width: usize) -> Case {
+    let lines = 1 + value.matches('\n').count();
+    at(name, value, lines, width)
+}
+
+/// A line of so many tabs, so many bytes after the first stretch, where sixteen parts of 304 bytes begin. A line of `known`
+/// columns stands before.
+fn after_known(known: usize, tabs: usize, on: usize) -> Case {
+    let before = "x".repeat(known) + "\n" + &tabbed(4223 - known) + &tabbed(on);
+    let value = before + &"\t".repeat(tabs) + "\n" + &tabbed(4899 - on - tabs) + "c";
+    counted("a line of tabs, and one that is known", value, known.max(8 * tabs))
+}
+
+/// A wide line so many bytes on, in sixteen parts of 256 bytes.
+fn one_wide(line: &str, width: usize, on: usize) -> Case {
+    let value = tabbed(on) + line + "\n" + &tabbed(4097 - on - line.len()) + "c";
+    counted("one wide line among tabs", value, width)
+}
+
+fn wide_lines() -> Vec<Case> {
+    let shifts = |begin: usize| [0, 1, 7, 8, 9, 15, 16, 17].map(|more| begin + more);
+    let begins = [0, 304, 8 * 304 - 16, 15 * 304 - 8].into_iter().flat_map(shifts);
+    let known = |on: usize| {
+        let pairs =
+            [111, 112, 119, 120, 121].into_iter().flat_map(|n| [13, 14, 15, 16].map(|t| (n, t)));
+        pairs.map(move |(known, tabs)| after_known(known, tabs, on))
+    };
+    let widths = [118, 119, 120, 121, 127, 128, 129, 135, 136, 247, 248, 249, 255, 256, 257, 384];
+    let wide = widths.into_iter().flat_map(|width| {
+        let (letters, tabs) = ("y".repeat(width), "\t".repeat(width / 8) + &"y".repeat(width % 8));
+        let places = [0, 40, 200, 256, 1000, 2040, 3700].into_iter();
+        places.flat_map(move |on| [one_wide(&letters, width, on), one_wide(&tabs, width, on + 4)])
+    });
+    begins.flat_map(known).chain(wide).collect()
+}
+
+/// The same value three times, a wide line so many bytes on, and the value again and again: a text of more than 65,024 bytes
+/// after the first stretch. The value begins with a line of `known` columns.
+fn in_long(known: usize, line: &str, width: usize, on: usize) -> Case {
+    let value = "x".repeat(known) + "\n" + &tabbed(on / 3 - known - 3) + "c";
+    let wide = feeds(1 + on % 3) + line + "\nc";
+    let mut values = vec![value.as_str(); 4 + 75_000 / value.len()];
+    values.insert(3, &wide);
+    let text = values.join(" ");
+    let lines = 1 + text.matches('\n').count();
+    let tokens: Vec<_> = values.iter().map(|value| (WORD, *value)).collect();
+    let wanted = Answer::Laid { text: text.into(), lines, width };
+    Case { name: "a wide line in a long text", sheet: of(&tokens), room: 1 << 18, wanted }
+}
+
+/// Their values share places.
+pub fn long_sheets() -> Vec<Case> {
+    let begins = [0, 1, 7, 15, 16].map(|part| 4224 + 4064 * part).into_iter();
+    let places = begins.flat_map(|at| [130, 17, 16, 8, 1, 0].map(|less| at - less));
+    let about = |on: usize| {
+        let line = |width: usize| "y".repeat(width);
+        let short = [119, 120, 121, 300].map(|width| in_long(7, &line(width), width, on));
+        let known = [133, 300].map(|width| in_long(130, &line(width), width, on));
+        let tabs = [in_long(130, &"\t".repeat(17), 136, on), in_long(7, &"\t".repeat(14), 112, on)];
+        short.into_iter().chain(known).chain(tabs)
+    };
+    places.flat_map(about).collect()
+}
+
 fn side_by_side() -> Vec<Case> {
     let begins = (1..16).map(|part| 64 * part);
     let about = begins.flat_map(|at| [13, 12, 8, 6, 5, 1, 0].map(|less| among_tabs(at - less)));
@@ -182,5 +252,6 @@ pub fn sheets() -> Vec<Case> {
     cases.extend(parts());
     cases.extend(far_tabs());
     cases.extend(side_by_side());
+    cases.extend(wide_lines());
     cases
 }

@@ -43,7 +43,7 @@ best-most a b (x ∷ xs) =
 -- ---- the first line
 
 -- a byte that is no line feed
-on-line : (a x : ℕ) → eqb x 10 ≡ false → suc a ≤ columnAfter a x
+pub on-line : (a x : ℕ) → eqb x 10 ≡ false → suc a ≤ columnAfter a x
 on-line a x e = rw e (go (eqb x 9))
   where
     go : (t : Bool) → suc a ≤ (if t then (a / 8 + 1) * 8 else suc a)

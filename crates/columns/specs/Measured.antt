@@ -5,6 +5,9 @@ use lib.ListN.{replicate}
 use Rattle.rules.specs.Text.{columnAfter}
 use Rattle.columns.specs.declared.Measure.{Measure}
 
+abbrev pub count : ℕ → ℕ → Measure
+count a b = record { at = a; best = b }
+
 abbrev pub oneOn : Measure → ℕ → Measure
 oneOn m x = record { at = columnAfter (m .at) x; best = max (columnAfter (m .at) x) (m .best) }
 

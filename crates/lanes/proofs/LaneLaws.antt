@@ -1,136 +1,66 @@
--- Laws of lanes: arrays that are written a number at a time, and the columns of each lane. Assumes nothing.
+-- Laws of a lane that goes on by codes. Assumes nothing.
 use mathlib.Core.Path.{_≡_, refl, sym, ap, _∙_}
-use mathlib.Core.Bool.{Bool, true, false}
-use mathlib.Core.List.{List}
-use Prim.Native.Nat.{ℕ, suc, _+_, _-_, _*_, _/_, _%_, _<_, max}
+use mathlib.Core.List.{List, [], _∷_, _++_}
+use Prim.Native.Nat.{ℕ, suc, _+_, _-_, _*_, _%_, _<_, max}
 use native.Mathlib.Omega.{arith}
 use lib.Bits.{bitAnd, and-mask}
-use lib.Dec.{eqb, ltb}
-use lib.ListN.{length, getD, set, length-set, List·getD-eq-default}
-use lib.Seq.{getD-set-same, getD-set-other}
-use borrow.Author.Count.{below-more}
-use borrow.Author.Tests.{ltb-true, ltb-false}
-use Rattle.rules.specs.Base.{if_then_else_}
-use Rattle.rules.specs.Text.{columnAfter}
-use Rattle.columns.specs.declared.Measure.{Measure}
-use Rattle.columns.specs.Measured.{measure}
+use lib.ListN.{length, getD, set}
+use Rattle.rules.specs.Text.{columnAfter, lineFeeds}
+use Rattle.columns.specs.Measured.{count, measure}
 use Rattle.columns.proofs.MeasureLaws.{column-most}
-use Rattle.lanes.specs.Lanes.{Below, Near, Mapped, Stepped, OnDown, count, down}
-
--- ---- an array, a number at a time
-
-module _ (f : ℕ → ℕ → ℕ) (was : List ℕ) where
-  pub mapped-none : Mapped 0 f was was
-  mapped-none = record { long = refl; new = λ k h. absurd (omega arith); old = λ k h. refl }
-
-  -- the next number is still the old one
-  pub mapped-on : (k v : ℕ) (l : List ℕ) → k < length was → Mapped k f was l → v ≡ f k (getD l k 0) → Mapped (k + 1) f was (set l k v)
-  mapped-on k v l h m e =
-      let n = m .long in
-      record {
-        long = length-set l k v ∙ m .long;
-        new = below-more _ k (λ i c. getD-set-other l k i v 0 (λ z. omega arith) ∙ m .new i c) (getD-set-same l k v 0 (omega arith) ∙ e ∙ ap (f k) (m .old k (omega arith)));
-        old = λ i c. getD-set-other l k i v 0 (λ z. omega arith) ∙ m .old i (omega arith);
-      }
-
-  pub mapped-below : (k n : ℕ) (l : List ℕ) → Mapped k f was l → Below was n → getD l k 0 < n
-  mapped-below k n l m b = rw (m .old k (omega arith)) (b .each k)
+use Rattle.steps.specs.Steps.{codeOf, onBy, feedOf, codesOf, down, rows}
+use Rattle.steps.proofs.ArrayLaws.{mapped-none, mapped-on}
+use Rattle.steps.proofs.StepLaws.{on-code, feed-code}
+use Rattle.lanes.specs.declared.Lane.{Lane}
+use Rattle.lanes.specs.Lanes.{laneOn, fresh, Laned}
 
 pub low-three : (x : ℕ) → bitAnd x 7 ≡ x % 8
 low-three x = and-mask x 3
 
-pub low-seven : (x : ℕ) → bitAnd x 127 ≡ x % 128
-low-seven x = and-mask x 7
+abbrev pub lane : ℕ → ℕ → ℕ → Lane
+lane at top feeds = record { at = at; top = top; feeds = feeds }
 
-pub head : (x y : ℕ) → x - bitAnd x 7 + bitAnd y 127 ≡ x - x % 8 + y % 128
-head x y = rw (low-three x, low-seven y)
+-- ---- codes one after the other
 
--- ---- a byte of each lane
+-- a row more: those that are left make the whole
+pub row-on : (t : List ℕ) (k i at top feeds a b f : ℕ) (r : Lane) → i < 8 → laneOn (lane at top feeds) (down t k i (8 - i)) ≡ r → a ≡ onBy at (getD t (16 * i + k) 0) → b ≡ max a top → f ≡ feedOf (getD t (16 * i + k) 0)
+    → laneOn (lane a b (feeds + f)) (down t k (i + 1) (8 - (i + 1))) ≡ r
+row-on t k i at top feeds a b f r h e ea eb ef =
+    let z : 8 - i ≡ suc (8 - (i + 1)) = omega arith in
+    rw (eb, ea, ef) (rw z at e)
 
-module _ (t : List ℕ) (at : ℕ) (c h g : List ℕ) where
-  pub stepped-none : Stepped t at 0 c h g c h g
-  stepped-none = record { columns = mapped-none _ c; largest = mapped-none _ h; inner = mapped-none _ g }
+lane-both : (m : Lane) (v w : List ℕ) → laneOn m (v ++ w) ≡ laneOn (laneOn m v) w
+lane-both m [] w = refl
+lane-both m (x ∷ xs) w = lane-both (lane (onBy (m .at) x) (max (onBy (m .at) x) (m .top)) (m .feeds + feedOf x)) xs w
 
-  pub stepped-on : (k x y z : ℕ) (c' h' g' : List ℕ) → k < length c → k < length h → k < length g → Stepped t at k c h g c' h' g'
-      → x ≡ columnAfter (getD c' k 0) (getD t (at + k) 0) → y ≡ max x (getD h' k 0) → z ≡ max (bitAnd x 127) (getD g' k 0)
-      → Stepped t at (k + 1) c h g (set c' k x) (set h' k y) (set g' k z)
-  stepped-on k x y z c' h' g' lc lh lg s ex ey ez =
+-- ---- a lane after the other
+
+module _ (t u c h n : List ℕ) where
+  pub laned-none : Laned t u 0 c h n c h n
+  laned-none = record { columns = mapped-none _ c; largest = mapped-none _ h; feeds = mapped-none _ n }
+
+  pub laned-on : (k : ℕ) (m r : Lane) (c' h' n' : List ℕ) → k < length c → k < length h → k < length n → Laned t u k c h n c' h' n' → m ≡ laneOn (fresh (getD c' k 0)) (down t k 0 8) → r ≡ laneOn m (down u k 0 8)
+      → Laned t u (k + 1) c h n (set c' k (r .at)) (set h' k (r .top)) (set n' k (r .feeds))
+  laned-on k m r c' h' n' lc lh ln s em er =
       let o : getD c' k 0 ≡ getD c k 0 = s .columns .old k (omega arith) in
-      let e : x ≡ columnAfter (getD c k 0) (getD t (at + k) 0) = rw o at ex in
-      let m : bitAnd x 127 ≡ columnAfter (getD c k 0) (getD t (at + k) 0) % 128 = low-seven x ∙ ap (λ (n : ℕ). n % 128) e in
+      let e : r ≡ laneOn (fresh (getD c' k 0)) (rows t u k) = er ∙ ap (λ (z : Lane). laneOn z (down u k 0 8)) em ∙ sym (lane-both (fresh (getD c' k 0)) (down t k 0 8) (down u k 0 8)) in
+      let f : r ≡ laneOn (fresh (getD c k 0)) (rows t u k) = e ∙ ap (λ (z : ℕ). laneOn (fresh z) (rows t u k)) o in
       record {
-        columns = mapped-on _ c k x c' lc (s .columns) ex;
-        largest = mapped-on _ h k y h' lh (s .largest) (ey ∙ ap (λ (n : ℕ). max n (getD h' k 0)) e);
-        inner = mapped-on _ g k z g' lg (s .inner) (ez ∙ ap (λ (n : ℕ). max n (getD g' k 0)) m);
+        columns = mapped-on _ c k (r .at) c' lc (s .columns) (ap (λ (z : Lane). z .at) e);
+        largest = mapped-on _ h k (r .top) h' lh (s .largest) (ap (λ (z : Lane). z .top) f);
+        feeds = mapped-on _ n k (r .feeds) n' ln (s .feeds) (ap (λ (z : Lane). z .feeds) f);
       }
 
--- ---- eight bytes of each lane
+-- ---- codes of bytes
 
--- a column goes on in the same way without the offset
-offset-on : (x b : ℕ) → x % 128 < 64 → columnAfter x b % 128 ≡ columnAfter (x % 128) b
-offset-on x b h = go (eqb b 10) (eqb b 9)
-  where
-    go : (f t : Bool) → (if f then 0 else if t then (x / 8 + 1) * 8 else suc x) % 128 ≡ (if f then 0 else if t then (x % 128 / 8 + 1) * 8 else suc (x % 128))
-    go true t = refl
-    go false true = omega arith
-    go false false = omega arith
-
--- i bytes of each lane are counted: those that are left make the whole count
-pub record Counted (t : List ℕ) (i : ℕ) (c h g c' h' g' : List ℕ) : Type 0 where
-  pub columnsLong : length c' ≡ length c
-  pub largestLong : length h' ≡ length h
-  pub innerLong : length g' ≡ length g
-  pub narrow : (k : ℕ) → k < 16 → getD c' k 0 < 136 + 8 * i
-  pub near : (k : ℕ) → k < 16 → getD c' k 0 % 128 < 8 + 8 * i
-  pub measured : (k : ℕ) → k < 16 → measure (count (getD c' k 0) (getD h' k 0)) (down t k i (8 - i)) ≡ measure (count (getD c k 0) (getD h k 0)) (down t k 0 8)
-  pub inner : (k : ℕ) → k < 16 → measure (count (getD c' k 0 % 128) (getD g' k 0)) (down t k i (8 - i)) ≡ measure (count (getD c k 0 % 128) (getD g k 0)) (down t k 0 8)
-
--- a row more of a lane
-row-on : (t : List ℕ) (k i : ℕ) (m : Measure) → i < 8 → measure m (down t k i (8 - i)) ≡ measure (count (columnAfter (m .at) (getD t (16 * i + k) 0)) (max (columnAfter (m .at) (getD t (16 * i + k) 0)) (m .best))) (down t k (i + 1) (8 - (i + 1)))
-row-on t k i m h = let e : 8 - i ≡ suc (8 - (i + 1)) = omega arith in rw e
-
-module _ (t c h g : List ℕ) where
-  pub counted-none : Near c 8 → Counted t 0 c h g c h g
-  counted-none n =
-      record {
-        columnsLong = refl;
-        largestLong = refl;
-        innerLong = refl;
-        narrow = λ k l. let a = n .below k l in omega arith;
-        near = λ k l. let a = n .below k l in let b = n .from k l in omega arith;
-        measured = λ k l. refl;
-        inner = λ k l. refl;
-      }
-
-  module _ (i : ℕ) (c' h' g' : List ℕ) (s : Counted t i c h g c' h' g') where
-    pub counted-below : i < 8 → length c ≡ 16 → Below c' 248
-    counted-below e l = record { each = λ k. go k (ltb k 16) refl }
-      where
-        go : (k : ℕ) (b : Bool) → ltb k 16 ≡ b → getD c' k 0 < 248
-        go k true z = let a = s .narrow k (ltb-true k 16 z) in omega arith
-        go k false z = let a = ltb-false k 16 z in let n = s .columnsLong in let d : getD c' k 0 ≡ 0 = List·getD-eq-default c' 0 (omega arith) in omega arith
-
-    pub counted-on : i < 8 → (c'' h'' g'' : List ℕ) → Stepped t (16 * i) 16 c' h' g' c'' h'' g'' → Counted t (i + 1) c h g c'' h'' g''
-    counted-on e c'' h'' g'' f =
-        record {
-          columnsLong = f .columns .long ∙ s .columnsLong;
-          largestLong = f .largest .long ∙ s .largestLong;
-          innerLong = f .inner .long ∙ s .innerLong;
-          narrow = λ k l. let a = s .narrow k l in let b = column-most (getD c' k 0) (getD t (16 * i + k) 0) in rw (f .columns .new k l) (omega arith);
-          near = λ k l. let a = s .near k l in let b = column-most (getD c' k 0 % 128) (getD t (16 * i + k) 0) in rw (f .columns .new k l, offset k l) (omega arith);
-          measured = λ k l. rw (f .columns .new k l, f .largest .new k l) (sym (row-on t k i (count (getD c' k 0) (getD h' k 0)) e) ∙ s .measured k l);
-          inner = λ k l. rw (f .columns .new k l, f .inner .new k l, offset k l) (sym (row-on t k i (count (getD c' k 0 % 128) (getD g' k 0)) e) ∙ s .inner k l);
-        }
-      where
-        offset : (k : ℕ) → k < 16 → columnAfter (getD c' k 0) (getD t (16 * i + k) 0) % 128 ≡ columnAfter (getD c' k 0 % 128) (getD t (16 * i + k) 0)
-        offset k l = let a = s .near k l in offset-on (getD c' k 0) (getD t (16 * i + k) 0) (omega arith)
-
-  pub counted-all : (c' h' g' : List ℕ) → Counted t 8 c h g c' h' g' → OnDown t 8 c h g c' h' g'
-  counted-all c' h' g' s =
-      record {
-        columnsLong = s .columnsLong;
-        largestLong = s .largestLong;
-        innerLong = s .innerLong;
-        measured = s .measured;
-        inner = λ k l. ap (λ (m : Measure). m .best) (s .inner k l);
-      }
+-- a column that stays in eight bits is counted as it should
+pub lane-codes : (at top feeds : ℕ) (w : List ℕ) → at + 8 * length w < 256 → laneOn (lane at top feeds) (codesOf w) ≡ lane (measure (count at top) w .at) (measure (count at top) w .best) (feeds + lineFeeds w)
+lane-codes at top feeds [] h = let z : feeds ≡ feeds + 0 = omega arith in ap (lane at top) z
+lane-codes at top feeds (x ∷ xs) h =
+    let a = columnAfter at x in
+    let c = column-most at x in
+    let o = on-code at x (omega arith) in
+    let z = feed-code x (lineFeeds xs) in
+    let y : feeds + feedOf (codeOf x) + lineFeeds xs ≡ feeds + lineFeeds (x ∷ xs) = omega (arith, z) in
+    ap (λ (k : ℕ). laneOn (lane k (max k top) (feeds + feedOf (codeOf x))) (codesOf xs)) o ∙ lane-codes a (max a top) (feeds + feedOf (codeOf x)) xs (omega arith)
+    ∙ ap (lane (measure (count at top) (x ∷ xs) .at) (measure (count at top) (x ∷ xs) .best)) y

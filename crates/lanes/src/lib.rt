@@ -1,44 +1,75 @@
-// The columns of sixteen parts of a text, eight bytes on. A lane is a part's column. It stands above an offset, a multiple of
-// eight, until a line feed comes: so the largest tells of what stands before the first line feed. Bytes serve for eight steps,
-// with 128 for the offset; between them a lane is wider, with 32768.
+// The columns of sixteen parts of a text, sixteen bytes on. A lane is a part's column. It stands above an offset, a multiple of
+// eight, until a line feed comes: so the largest tells of what stands before the first line feed. Bytes serve for sixteen steps,
+// with 120 for the offset; between them a lane is wider, with 32768. What begins and ends within sixteen bytes has at most 120
+// columns, and is passed over: a line as wide is known.
 use side::side_by_side;
+use steps::add;
+use steps::codes;
+use steps::feed;
+use steps::larger_u8;
+use steps::on;
 ghost use mathlib.Core.Path.{_≡_};
 ghost use Prim.Native.Nat.{_+_, _-_, _*_, _%_, _≤_, _<_, max};
 ghost use lib.Bits.{bitAnd};
-ghost use lib.Dec.{eqb, ltb};
+ghost use lib.Dec.{ltb};
 ghost use lib.ListN.{length, getD};
 ghost use Rattle.rules.specs.Base.{if_then_else_};
-ghost use Rattle.rules.specs.Text.{columnAfter};
-ghost use Rattle.lanes.specs.Lanes.{Below, Near, Mapped, Stepped, OnDown, Ready, OnEight};
+ghost use Rattle.steps.specs.Steps.{Below, Mapped, down};
+ghost use Rattle.lanes.specs.Lanes.{Over, laneOn, Laned, Ready, OnSixteen};
 
-// ---- one byte
+// ---- sixteen bytes of each part
 
-// The bits that a tab sets before it goes on by one.
-fn stop(b: u8) -> u8
-    ensures { λ r. ⌜ r ≡ (if eqb b 9 then 7 else 0) ⌝ }
-{
-    if b == 9 { 7 } else { 0 }
+// A part's column, the largest, and the line feeds.
+pub struct Lane {
+    pub at: u8,
+    pub top: u8,
+    pub feeds: u8,
 }
 
-// The bits that are kept: none after a line feed.
-fn kept(b: u8) -> u8
-    ensures { λ r. ⌜ r ≡ (if eqb b 10 then 0 else 255) ⌝ }
+fn lane_on(t: &[u8; 128], k: usize, from: Lane) -> Lane
+    requires { ⌜ (k < 16) × (from .feeds ≤ 8) ⌝ }
+    ensures { λ r. ⌜ (r ≡ laneOn from (down (now (t .entry)) k 0 8)) × (r .feeds ≤ from .feeds + 8) ⌝ }
 {
-    if b == 10 { 0 } else { 255 }
+    let mut at = from.at;
+    let mut top = from.top;
+    let mut feeds = from.feeds;
+    let mut i = 0;
+    while i < 8 {
+        let x = t[16 * i + k];
+        at = on(at, x);
+        top = larger_u8(at, top);
+        feeds += feed(x);
+        i += 1;
+    }
+    Lane { at, top, feeds }
 }
 
-fn column_after(at: u8, b: u8) -> u8
-    requires { ⌜ at < 248 ⌝ }
-    ensures { λ r. ⌜ r ≡ columnAfter at b ⌝ }
+// A lane at a time, so that the compiler takes all sixteen at once.
+fn sixteen_on(c: &mut [u8; 16], h: &mut [u8; 16], n: &mut [u8; 16], t: &[u8; 128], u: &[u8; 128])
+    requires { ⌜ (length (now c) ≡ 16) × (length (now h) ≡ 16) × (length (now n) ≡ 16) ⌝ }
+    ensures { λ _. ⌜ Laned (now (t .entry)) (now (u .entry)) 16 (now (c .entry)) (now (h .entry)) (now (n .entry)) (now (c .exit)) (now (h .exit)) (now (n .exit)) ⌝ }
 {
-    ((at | stop(b)) + 1) & kept(b)
+    let mut k = 0;
+    while k < 16 {
+        let from = c[k];
+        let half = lane_on(
+            t,
+            k,
+            Lane {
+                at: from,
+                top: from,
+                feeds: 0,
+            },
+        );
+        let r = lane_on(u, k, half);
+        c[k] = r.at;
+        h[k] = r.top;
+        n[k] = r.feeds;
+        k += 1;
+    }
 }
 
-fn larger_u8(a: u8, b: u8) -> u8
-    ensures { λ r. ⌜ r ≡ max a b ⌝ }
-{
-    if a < b { b } else { a }
-}
+// ---- from wide lanes to bytes and back
 
 fn larger_u16(a: u16, b: u16) -> u16
     ensures { λ r. ⌜ r ≡ max a b ⌝ }
@@ -46,66 +77,25 @@ fn larger_u16(a: u16, b: u16) -> u16
     if a < b { b } else { a }
 }
 
-// ---- eight bytes of each part
-
-// A byte of each part: the column c, the largest h, and the largest without the offset g.
-fn on(c: &mut [u8; 16], h: &mut [u8; 16], g: &mut [u8; 16], t: &[u8; 128], at: usize)
-    requires { ⌜ (length (now c) ≡ 16) × (length (now h) ≡ 16) × (length (now g) ≡ 16) × (at + 16 ≤ 128) × Below (now c) 248 ⌝ }
-    ensures { λ _. ⌜ Stepped (now (t .entry)) at 16 (now (c .entry)) (now (h .entry)) (now (g .entry)) (now (c .exit)) (now (h .exit)) (now (g .exit)) ⌝ }
-{
-    let mut k = 0;
-    while k < 16 {
-        let x = column_after(c[k], t[at + k]);
-        c[k] = x;
-        h[k] = larger_u8(x, h[k]);
-        g[k] = larger_u8(x & 127, g[k]);
-        k += 1;
-    }
-}
-
-fn eight_on(c: &mut [u8; 16], h: &mut [u8; 16], g: &mut [u8; 16], t: &[u8; 128])
-    requires { ⌜ (length (now c) ≡ 16) × (length (now h) ≡ 16) × (length (now g) ≡ 16) × Near (now c) 8 ⌝ }
-    ensures { λ _. ⌜ OnDown (now (t .entry)) 8 (now (c .entry)) (now (h .entry)) (now (g .entry)) (now (c .exit)) (now (h .exit)) (now (g .exit)) ⌝ }
-{
-    let mut i = 0;
-    while i < 8 {
-        on(c, h, g, t, 16 * i);
-        i += 1;
-    }
-}
-
-// ---- from wide lanes to bytes and back
-
 fn phases(c: &mut [u8; 16], at: &[u16; 16])
     requires { ⌜ length (now c) ≡ 16 ⌝ }
-    ensures { λ _. ⌜ Mapped 16 (λ k x. getD (now (at .entry)) k 0 % 8 + 128) (now (c .entry)) (now (c .exit)) ⌝ }
+    ensures { λ _. ⌜ Mapped 16 (λ k x. getD (now (at .entry)) k 0 % 8 + 120) (now (c .entry)) (now (c .exit)) ⌝ }
 {
     let mut k = 0;
     while k < 16 {
-        c[k] = (at[k] & 7) as u8 + 128;
-        k += 1;
-    }
-}
-
-fn copied(to: &mut [u8; 16], c: &[u8; 16])
-    requires { ⌜ length (now to) ≡ 16 ⌝ }
-    ensures { λ _. ⌜ Mapped 16 (λ k x. getD (now (c .entry)) k 0) (now (to .entry)) (now (to .exit)) ⌝ }
-{
-    let mut k = 0;
-    while k < 16 {
-        to[k] = c[k];
+        c[k] = (at[k] & 7) as u8 + 120;
         k += 1;
     }
 }
 
 // Where each part's first line ends, or these bytes do.
 fn heads(at: &mut [u16; 16], h: &[u8; 16])
-    requires { ⌜ (length (now at) ≡ 16) × Below (now at) 65408 ⌝ }
-    ensures { λ _. ⌜ Mapped 16 (λ k x. x - x % 8 + getD (now (h .entry)) k 0 % 128) (now (at .entry)) (now (at .exit)) ⌝ }
+    requires { ⌜ (length (now at) ≡ 16) × Below (now at) 65280 × Over (now h) ⌝ }
+    ensures { λ _. ⌜ Mapped 16 (λ k x. x - x % 8 + (getD (now (h .entry)) k 0 - 120)) (now (at .entry)) (now (at .exit)) ⌝ }
 {
     let mut k = 0;
     while k < 16 {
-        at[k] = at[k] - (at[k] & 7) + (h[k] & 127) as u16;
+        at[k] = at[k] - (at[k] & 7) + (h[k] - 120) as u16;
         k += 1;
     }
 }
@@ -117,24 +107,6 @@ fn tops(to: &mut [u16; 16], at: &[u16; 16], mask: u16)
     let mut k = 0;
     while k < 16 {
         to[k] = larger_u16(at[k] & mask, to[k]);
-        k += 1;
-    }
-}
-
-// A parameter is known to be a byte, an array's number is not.
-fn wide(b: u8) -> u16
-    ensures { λ r. ⌜ r ≡ b ⌝ }
-{
-    b as u16
-}
-
-fn inner(to: &mut [u16; 16], g: &[u8; 16])
-    requires { ⌜ length (now to) ≡ 16 ⌝ }
-    ensures { λ _. ⌜ Mapped 16 (λ k x. max (getD (now (g .entry)) k 0) x) (now (to .entry)) (now (to .exit)) ⌝ }
-{
-    let mut k = 0;
-    while k < 16 {
-        to[k] = larger_u16(wide(g[k]), to[k]);
         k += 1;
     }
 }
@@ -157,31 +129,35 @@ fn ends(at: &mut [u16; 16], c: &[u8; 16])
     }
 }
 
-// ---- eight bytes on
+// ---- sixteen bytes on
 
-// Eight bytes of each part: its column, the largest, and the largest without the offset.
+// Sixteen bytes of each part: its column, the largest, the largest without the offset, and the line feeds.
 pub fn block(
     at: &mut [u16; 16],
     head: &mut [u16; 16],
     best: &mut [u16; 16],
+    feeds: &mut [u16; 16],
     text: &[u8],
     start: usize,
     far: usize,
 )
-    requires { ⌜ (start + 15 * far + 8 ≤ length (now text)) × Ready (now at) (now head) (now best) ⌝ }
-    ensures { λ _. ⌜ OnEight (now (text .entry)) start far (now (at .entry)) (now (head .entry)) (now (best .entry)) (now (at .exit)) (now (head .exit)) (now (best .exit)) ⌝ }
+    requires { ⌜ (start + 15 * far + 16 ≤ length (now text)) × Ready (now at) (now head) (now best) (now feeds) ⌝ }
+    ensures { λ _. ⌜ OnSixteen (now (text .entry)) start far (now (at .entry)) (now (head .entry)) (now (best .entry)) (now (feeds .entry)) (now (at .exit)) (now (head .exit)) (now (best .exit)) (now (feeds .exit)) ⌝ }
 {
     let mut t: [u8; 128] = [0; 128];
+    let mut u: [u8; 128] = [0; 128];
     side_by_side(&mut t, text, start, far);
+    side_by_side(&mut u, text, start + 8, far);
     let mut c: [u8; 16] = [0; 16];
     let mut h: [u8; 16] = [0; 16];
-    let mut g: [u8; 16] = [0; 16];
+    let mut n: [u8; 16] = [0; 16];
     phases(&mut c, at);
-    copied(&mut h, &c);
-    eight_on(&mut c, &mut h, &mut g, &t);
+    codes(&mut t);
+    codes(&mut u);
+    sixteen_on(&mut c, &mut h, &mut n, &t, &u);
     heads(at, &h);
     tops(head, at, 65535);
     tops(best, at, 32767);
-    inner(best, &g);
     ends(at, &c);
+    add(feeds, &n);
 }

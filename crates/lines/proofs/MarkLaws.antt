@@ -12,24 +12,22 @@ use lib.Seq.{length-take-le, take-add}
 use borrow.Author.Tests.{eq-eqb}
 use Rattle.rules.specs.Base.{if_then_else_}
 use Rattle.rules.specs.Text.{lineFeeds, lines, width}
+use Rattle.rules.proofs.Short.{feeds-few}
 use Rattle.ascii.specs.Part.{part, has}
-use Rattle.ascii.proofs.PartLaws.{part-suc, part-more}
+use Rattle.ascii.proofs.PartLaws.{length-part, part-suc, part-more}
 use Rattle.ascii.proofs.FindLaws.{has-both}
+use Rattle.columns.specs.declared.Measure.{Measure}
+use Rattle.columns.specs.Measured.{measure}
+use Rattle.parts.specs.declared.Counted.{Counted}
+use Rattle.parts.specs.Parts.{countedOf}
 use Rattle.longest.proofs.LongestLaws.{or-zero}
+use Rattle.parts.proofs.JoinLaws.{feeds-both}
 use Rattle.lines.specs.declared.Size.{Size}
 use Rattle.lines.specs.declared.Marks.{Marks}
 use Rattle.lines.specs.Marked.{Marked}
 use Rattle.lines.specs.Marked.{sizeOf}
 
 -- ---- two parts
-
-feeds-both : (v w : List ℕ) → lineFeeds (v ++ w) ≡ lineFeeds v + lineFeeds w
-feeds-both [] w = omega arith
-feeds-both (x ∷ xs) w = go (eqb x 10) (feeds-both xs w)
-  where
-    go : (b : Bool) → lineFeeds (xs ++ w) ≡ lineFeeds xs + lineFeeds w → (if b then suc (lineFeeds (xs ++ w)) else lineFeeds (xs ++ w)) ≡ (if b then suc (lineFeeds xs) else lineFeeds xs) + lineFeeds w
-    go true e = omega arith
-    go false e = e
 
 not-either : (p q : Bool) → (not p && not q) ≡ not (p || q)
 not-either true q = refl
@@ -78,10 +76,9 @@ pub by-no-size : (d : List ℕ) (len : ℕ) → len ≡ 0 → record { lines = 0
 by-no-size d len z = rw z
 
 -- the lines of i bytes, and those of k more
-pub by-more-lines : (d : List ℕ) (i k n : ℕ) (m : Marks) → Marked (part d i k) m → n ≡ lineFeeds (take i d) + 1 → n + m .feeds ≡ lineFeeds (take (i + k) d) + 1
-by-more-lines d i k n m a e =
+pub by-more-lines : (d : List ℕ) (i k n g : ℕ) → g ≡ lineFeeds (part d i k) → n ≡ lineFeeds (take i d) + 1 → n + g ≡ lineFeeds (take (i + k) d) + 1
+by-more-lines d i k n g c e =
     let f : lineFeeds (take (i + k) d) ≡ lineFeeds (take i d) + lineFeeds (part d i k) = ap lineFeeds (take-add i k d) ∙ feeds-both (take i d) (part d i k) in
-    let c = a .counted in
     omega arith
 
 pub by-size : (d : List ℕ) (len i n : ℕ) (m : Marks) (w : ℕ) → len ≤ length d → (len ≡ 0 → ⊥) → i ≤ len → n ≡ lineFeeds (take i d) + 1 → Marked (part d i (len - i)) m → w ≡ width (take len d)
@@ -91,8 +88,21 @@ by-size d len i n m w h z c e k f =
     let l = length-take-le len d h in
     let s : 0 < length (take len d) = omega arith in
     let j : i + (len - i) ≡ len = omega arith in
-    let g : n + m .feeds ≡ lineFeeds (take len d) + 1 = rw j at (by-more-lines d i (len - i) n m k e) in
+    let g : n + m .feeds ≡ lineFeeds (take len d) + 1 = rw j at (by-more-lines d i (len - i) n (m .feeds) (k .counted) e) in
     ap (λ (y : ℕ). size y w) (g ∙ sym (lines-some (take len d) s)) ∙ ap (size (lines (take len d))) f
+
+-- ---- what sixteen parts say
+
+module _ (d : List ℕ) (i k : ℕ) (m : Measure) (s : Counted) (e : s ≡ countedOf m (part d i k)) where
+  pub by-parts-feeds : s .feeds ≡ lineFeeds (part d i k)
+  by-parts-feeds = ap (λ (r : Counted). r .feeds) e
+
+  -- no more of them than bytes
+  pub few-feeds : i + k ≤ length d → s .feeds ≤ k
+  few-feeds h = let l = length-part d i k h in let f = feeds-few (part d i k) in let g = by-parts-feeds in omega arith
+
+  pub by-parts-columns : record { at = s .at; best = s .best } ≡ measure m (part d i k)
+  by-parts-columns = rw e
 
 -- ---- what the marks say
 

@@ -5,12 +5,14 @@ use columns::by_columns;
 use columns::passed;
 use longest::equal;
 use longest::larger;
+use longest::least;
 use longest::longest_line;
 use longest::past_last;
 use parts::by_parts;
+use parts::sixteen;
 ghost use mathlib.Core.Path.{_≡_};
 ghost use mathlib.Core.Bool.{false};
-ghost use Prim.Native.Nat.{_+_, _*_, _^_, _≤_, _<_};
+ghost use Prim.Native.Nat.{_+_, _*_, _%_, _^_, _≤_, _<_};
 ghost use lib.Dec.{eqb};
 ghost use lib.ListN.{length, take};
 ghost use Rattle.rules.specs.Base.{if_then_else_};
@@ -164,23 +166,22 @@ fn last_stretch(text: &[u8], start: usize, n: usize, k: Marks, m: Measure) -> us
     longest_from(text, start, n, m)
 }
 
-// How long the next stretch is: any length gives the same numbers. It is 22 blocks of marks, so short that it is still near when it
-// is read again, and longer than a page of memory, so that the next bytes are fetched while these are counted; and four times as
-// long where tabs stand close, so that fewer parts are joined.
-fn next_length(text: &[u8], start: usize, n: usize, k: Marks) -> usize
+// How long each of sixteen parts of the next bytes is, where tabs stand close, or 0. There line feeds and columns are counted in
+// one pass.
+fn close(text: &[u8], start: usize, n: usize, tab: u8) -> usize
     requires { ⌜ start + n ≤ length (now text) ⌝ }
-    ensures { λ r. ⌜ 0 < r ⌝ }
+    ensures { λ r. ⌜ (16 * r ≤ n) × (r % 16 ≡ 0) × (r ≤ 4064) ⌝ }
 {
-    if k.tab == 0 {
-        return 4224;
+    if tab == 0 {
+        return 0;
     }
-    if n < 16896 {
-        return 4224;
+    if n < 4224 {
+        return 0;
     }
     if find(text, start, 1024, 9) < 1024 {
-        return 16896;
+        return least(n / 256, 254) * 16;
     }
-    4224
+    0
 }
 
 pub fn lines_width(text: &[u8], len: usize) -> Size
@@ -193,13 +194,26 @@ pub fn lines_width(text: &[u8], len: usize) -> Size
     let mut m = Measure { at: 0, best: 0 };
     let mut lines = 1;
     let mut i = 0;
-    let mut n = 4224;
-    while n < len - i {
-        let k = all_marks(text, i, n);
-        m = stretch(text, i, n, k, m);
+    let mut tab: u8 = 0;
+    // 22 blocks of marks: so short that they are still near when they are read again, and longer than a page of memory, so that the
+    // next bytes are fetched while these are counted. Any length gives the same numbers.
+    while 4224 < len - i {
+        let far = close(text, i, len - i, tab);
+        if far != 0 {
+            let s = sixteen(text, i, far, m);
+            m = Measure {
+                at: s.at,
+                best: s.best,
+            };
+            lines += s.feeds;
+            i += 16 * far;
+            continue;
+        }
+        let k = all_marks(text, i, 4224);
+        m = stretch(text, i, 4224, k, m);
         lines += k.feeds;
-        i += n;
-        n = next_length(text, i, len - i, k);
+        tab = k.tab;
+        i += 4224;
     }
     let k = all_marks(text, i, len - i);
     Size {

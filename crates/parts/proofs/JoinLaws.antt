@@ -13,15 +13,16 @@ use lib.ListN.{length, take, drop, getD, replicate, getD-replicate, List·getD-e
 use lib.Seq.{take-take}
 use borrow.Author.Tests.{ltb-true, ltb-false}
 use Rattle.rules.specs.Base.{if_then_else_}
-use Rattle.rules.specs.Text.{columnAfter}
+use Rattle.rules.specs.Text.{columnAfter, lineFeeds}
+use Rattle.rules.proofs.Short.{feeds-few}
 use Rattle.ascii.specs.Part.{part, has, before}
 use Rattle.ascii.proofs.PartLaws.{length-part, part-more, part-end}
 use Rattle.columns.specs.declared.Measure.{Measure}
-use Rattle.columns.specs.Measured.{measure}
-use Rattle.columns.proofs.HeadLaws.{headAt, after, split, head-far, head-most, best-most, after-most, after-end}
+use Rattle.columns.specs.Measured.{count, measure}
+use Rattle.columns.proofs.HeadLaws.{headAt, after, split, head-far, head-most, best-free, best-most, after-most, after-end}
 use Rattle.columns.proofs.MeasureLaws.{Counted, none-counted, counted-on, measure-both, measure-most}
-use Rattle.lanes.specs.Lanes.{count}
-use Rattle.parts.specs.Parts.{Told}
+use Rattle.parts.specs.declared.Counted.{Counted as Counts}
+use Rattle.parts.specs.Parts.{Told, countedOf}
 
 -- ---- the first line
 
@@ -63,7 +64,7 @@ head-tab (x ∷ xs) e d h = go (eqb x 10) (eqb x 9) refl refl (head-tab xs (suc 
         rw (p, q) (omega arith)
 
 -- and it ends no earlier where it starts further on
-head-mono : (v : List ℕ) (a e : ℕ) → a ≤ e → headAt a v ≤ headAt e v
+pub head-mono : (v : List ℕ) (a e : ℕ) → a ≤ e → headAt a v ≤ headAt e v
 head-mono [] a e h = h
 head-mono (x ∷ xs) a e h = go (eqb x 10) (eqb x 9) (head-mono xs)
   where
@@ -113,19 +114,11 @@ by-above d start n at q e h = go (has 10 10 (part d start n)) refl
 
 -- ---- what is told of a part
 
-same-measure : (a b : ℕ) (r : Measure) → a ≡ r .at → b ≡ r .best → record { at = a; best = b } ≡ r
+pub same-measure : (a b : ℕ) (r : Measure) → a ≡ r .at → b ≡ r .best → record { at = a; best = b } ≡ r
 same-measure a b r e f = rw (e, f)
 
--- what a lane asks before eight bytes more
-pub record Roomy (at head best : ℕ) : Type 0 where
-  pub column : at ≤ head
-  pub offset : 32768 ≤ head
-  pub inner : at % 32768 ≤ best
-  pub room : at % 32768 < 32640
-  pub below : at < 65408
-
-module _ (v : List ℕ) (at head best : ℕ) (s : length v ≤ 4064) (t : Told v at head best) where
-  told-head : head ≡ 32768 + headAt 0 v
+module _ (v : List ℕ) (known at head best : ℕ) (s : length v ≤ 4064) (t : Told v known at head best) where
+  pub told-head : head ≡ 32768 + headAt 0 v
   told-head =
       let m : head ≡ measure (record { at = 32768; best = 32768 }) v .best = ap (λ (r : Measure). r .best) (t .measured) in
       let p = split 32768 32768 v (omega arith) .most in
@@ -133,14 +126,11 @@ module _ (v : List ℕ) (at head best : ℕ) (s : length v ≤ 4064) (t : Told v
       let a = after-most v in
       omega arith
 
-  told-best : best ≡ max (headAt 0 v) (after v .best)
-  told-best = let i = t .inner in let p = split 0 0 v (omega arith) .most in omega arith
+  told-best : max best known ≡ max known (max (headAt 0 v) (after v .best))
+  told-best = let i = t .inner in let p = split 0 known v (omega arith) .most in omega arith
 
   told-past : has 10 10 v ≡ true → at ≡ after v .at
   told-past h = ap (λ (r : Measure). r .at) (t .measured) ∙ split 32768 32768 v (omega arith) .past h
-
-  told-within : has 10 10 v ≡ false → at ≡ headAt 32768 v
-  told-within h = ap (λ (r : Measure). r .at) (t .measured) ∙ split 32768 32768 v (omega arith) .within h
 
   told-offset : bitAnd head 32767 ≡ headAt 0 v
   told-offset =
@@ -148,46 +138,30 @@ module _ (v : List ℕ) (at head best : ℕ) (s : length v ≤ 4064) (t : Told v
       let e = told-head in
       and-mask head 15 ∙ (omega arith)
 
-  -- the offset leaves the column as from 0
-  told-at : at % 32768 ≡ measure (count 0 0) v .at
-  told-at = go (has 10 10 v) refl
-    where
-      go : (f : Bool) → has 10 10 v ≡ f → at % 32768 ≡ measure (count 0 0) v .at
-      go true e =
-          let a = told-past e in
-          let p = split 0 0 v (omega arith) .past e in
-          let n = measure-most (count 0 0) v .narrow in
-          omega arith
-      go false e =
-          let a = told-within e in
-          let p = split 0 0 v (omega arith) .within e in
-          let n = measure-most (count 0 0) v .narrow in
-          let f = head-far 4096 0 v in
-          omega arith
+-- what is told where less is known is told where more is
+pub told-known : (v : List ℕ) (k n at head best : ℕ) → k ≤ n → Told v k at head best → Told v n at head best
+told-known v k n at head best h t =
+    let i = t .inner in
+    let p = best-free 0 k v .1 in
+    let q = best-free 0 n v .1 in
+    record { measured = t .measured; inner = omega (arith, i, p, q) }
 
-  -- w more bytes, the column without its offset for the largest from 0
-  told-on : (w : List ℕ) (a h b : ℕ) → count a h ≡ measure (count at head) w → b ≡ measure (count (at % 32768) best) w .best → Told (v ++ w) a h b
-  told-on w a h b e f =
-      let k : count (at % 32768) best ≡ measure (count 0 0) v = same-measure (at % 32768) best (measure (count 0 0) v) told-at (t .inner) in
-      record {
-        measured = e ∙ ap (λ (r : Measure). measure r w) (t .measured) ∙ sym (measure-both (count 32768 32768) v w);
-        inner = f ∙ ap (λ (r : Measure). measure r w .best) k ∙ ap (λ (r : Measure). r .best) (sym (measure-both (count 0 0) v w));
-      }
+max-out : (b h k : ℕ) → max b (max h k) ≡ max (max b k) h
+max-out b h k = omega arith
 
-  -- eight more fit
-  told-roomy : length v ≤ 4056 → Roomy at head best
-  told-roomy c =
-      let u : at ≤ head = rw (← t .measured) at (measure-most (count 32768 32768) v .under (omega arith)) in
-      let m = head-most 0 v in
-      let e = told-head in
-      let a = told-at in
-      let i = t .inner in
-      let n = measure-most (count 0 0) v in
-      record { column = u; offset = omega arith; inner = omega (arith, n .under (omega arith)); room = omega (arith, n .narrow); below = omega arith }
+max-over : (k n h : ℕ) → max (max k n) h ≡ max k (max n h)
+max-over k n h = omega arith
+
+max-under : (h₀ a h : ℕ) → h₀ ≤ h → max (max h₀ a) h ≡ max h a
+max-under h₀ a h l = omega arith
+
+-- the largest of a part, put after what stands before it
+together : (best k h₀ h a : ℕ) → max best k ≡ max k (max h₀ a) → h₀ ≤ h → max best (max h k) ≡ max (max k h) a
+together best k h₀ h a e l = max-out best h k ∙ ap (λ (n : ℕ). max n h) e ∙ max-over k (max h₀ a) h ∙ ap (max k) (max-under h₀ a h l) ∙ sym (max-over k h a)
 
 -- ---- the part after all that stands before it
 
-module _ (d : List ℕ) (start n : ℕ) (m : Measure) (at head best line tab end wide : ℕ) (q : (start + n ≤ length d) × (n ≤ 4064) × (m .at ≤ m .best)) (t : Told (part d start n) at head best) (l : (line ≡ before 10 (part d start n)) × (line ≤ n)) (b : tab ≡ before 9 (part d start line))
+module _ (d : List ℕ) (start n : ℕ) (m : Measure) (at head best line tab end wide : ℕ) (q : (start + n ≤ length d) × (n ≤ 4064) × (m .at ≤ m .best)) (t : Told (part d start n) (m .best) at head best) (l : (line ≡ before 10 (part d start n)) × (line ≤ n)) (b : tab ≡ before 9 (part d start line))
     (c : ((tab < line) × (end ≡ bitAnd head 32767 + ((m .at + tab) / 8 - tab / 8) * 8)) ⊎ ((line ≤ tab) × (end ≡ m .at + line))) (w : wide ≡ max end (m .best)) where
   v : List ℕ
   v = part d start n
@@ -209,7 +183,7 @@ module _ (d : List ℕ) (start n : ℕ) (m : Measure) (at head best line tab end
   end-is =
       let f = l .0 in
       let e = tab-is in
-      let o = told-offset v at head best short t in
+      let o = told-offset v (m .best) at head best short t in
       ⊎-elim (λ g. let k = head-tab v (m .at) 0 (omega (arith, g .0)) in omega (arith, g .1)) (λ g. let k = head-plain v (m .at) (omega (arith, g .0)) in omega (arith, g .1)) c
 
   pub by-one-line : line ≡ n → record { at = end; best = wide } ≡ measure m (part d start n)
@@ -229,73 +203,34 @@ module _ (d : List ℕ) (start n : ℕ) (m : Measure) (at head best line tab end
       let e = end-is in
       let o = a-feed v (omega (arith, l .0, l .1)) in
       let p = split (m .at) (m .best) v (q .2) in
-      let j = told-best v at head best short t in
+      let j = told-best v (m .best) at head best short t in
       let i = head-mono v 0 (m .at) (omega arith) in
-      same-measure at r (measure m v) (told-past v at head best short t o ∙ sym (p .past o)) (omega (arith, p .most))
+      let x : r ≡ max best (max (headAt (m .at) v) (m .best)) = g ∙ ap (max best) (w ∙ ap (λ (k : ℕ). max k (m .best)) e) in
+      same-measure at r (measure m v) (told-past v (m .best) at head best short t o ∙ sym (p .past o)) (x ∙ together best (m .best) (headAt 0 v) (headAt (m .at) v) (after v .best) j i ∙ sym (p .most))
 
--- ---- the first loop: j bytes of each of sixteen parts are told
+-- ---- line feeds
 
-pub record Lanes (d : List ℕ) (start far j : ℕ) (at head best : List ℕ) : Type 0 where
-  pub within : j ≤ far
-  pub eights : j % 8 ≡ 0
-  pub each : (k : ℕ) → k < 16 → Told (part d (start + k * far) j) (getD at k 0) (getD head k 0) (getD best k 0)
+pub feeds-both : (v w : List ℕ) → lineFeeds (v ++ w) ≡ lineFeeds v + lineFeeds w
+feeds-both [] w = omega arith
+feeds-both (x ∷ xs) w = go (eqb x 10) (feeds-both xs w)
+  where
+    go : (b : Bool) → lineFeeds (xs ++ w) ≡ lineFeeds xs + lineFeeds w → (if b then suc (lineFeeds (xs ++ w)) else lineFeeds (xs ++ w)) ≡ (if b then suc (lineFeeds xs) else lineFeeds xs) + lineFeeds w
+    go true e = omega arith
+    go false e = e
 
-pub none-told : (d : List ℕ) (start far : ℕ) → Lanes d start far 0 (replicate 16 32768) (replicate 16 32768) (replicate 16 0)
-none-told d start far = record {
-  within = omega arith;
-  eights = omega arith;
-  each = λ k h. rw (getD-replicate {A = ℕ} 16 k 32768 0 h, getD-replicate {A = ℕ} 16 k 0 0 h) (record { measured = refl; inner = refl });
-}
+-- ---- the parts one after the other
 
 -- a part lies within the text
-past-part : (k far : ℕ) → k < 16 → k * far + far ≤ 16 * far
+pub past-part : (k far : ℕ) → k < 16 → k * far + far ≤ 16 * far
 past-part k far h = let a = suc-mul k far in let b : suc k * far ≤ 16 * far = mul-le-mul-right far h in omega arith
-
-module _ (d : List ℕ) (start far j : ℕ) (at head best : List ℕ) (q : (start + 16 * far ≤ length d) × (far % 8 ≡ 0) × (far ≤ 4064)) (s : Lanes d start far j at head best) (c : j < far) where
-  lane-length : (k : ℕ) → k < 16 → length (part d (start + k * far) j) ≡ j
-  lane-length k h = let p = past-part k far h in length-part d (start + k * far) j (omega (arith, q .0))
-
-  pub lane-more : j + 8 ≤ far
-  lane-more = omega (arith, s .eights, q .1)
-
-  pub lane-roomy : (k : ℕ) → k < 16 → Roomy (getD at k 0) (getD head k 0) (getD best k 0)
-  lane-roomy k h =
-      let l = lane-length k h in
-      let m = lane-more in
-      told-roomy (part d (start + k * far) j) (getD at k 0) (getD head k 0) (getD best k 0) (omega (arith, q .2)) (s .each k h) (omega (arith, q .2))
-
-  pub lanes-on : (a h b : List ℕ) → ((k : ℕ) → k < 16 → count (getD a k 0) (getD h k 0) ≡ measure (count (getD at k 0) (getD head k 0)) (part d (start + j + k * far) 8))
-      → ((k : ℕ) → k < 16 → getD b k 0 ≡ measure (count (getD at k 0 % 32768) (getD best k 0)) (part d (start + j + k * far) 8) .best) → Lanes d start far (j + 8) a h b
-  lanes-on a h b e f = record {
-    within = lane-more;
-    eights = omega (arith, s .eights);
-    each = λ k g.
-        let l = lane-length k g in
-        let p : start + j + k * far ≡ start + k * far + j = omega arith in
-        rw (part-more d (start + k * far) j 8) (told-on (part d (start + k * far) j) (getD at k 0) (getD head k 0) (getD best k 0) (omega (arith, q .2)) (s .each k g) (part d (start + k * far + j) 8) (getD a k 0) (getD h k 0) (getD b k 0) (rw p at (e k g)) (rw p at (f k g)));
-  }
-
--- after the loop all of each part is told
-pub lane-told : (d : List ℕ) (start far j k : ℕ) (at head best : List ℕ) → Lanes d start far j at head best → far ≤ j → k < 16 → Told (part d (start + k * far) far) (getD at k 0) (getD head k 0) (getD best k 0)
-lane-told d start far j k at head best s c h = let e : j ≡ far = omega (arith, s .within) in rw e at (s .each k h)
-
--- past the sixteenth there is 0
-pub all-below : (l : List ℕ) (n : ℕ) → length l ≡ 16 → 0 < n → ((k : ℕ) → k < 16 → getD l k 0 < n) → (k : ℕ) → getD l k 0 < n
-all-below l n e p h k = go (ltb k 16) refl
-  where
-    go : (b : Bool) → ltb k 16 ≡ b → getD l k 0 < n
-    go true f = h k (ltb-true k 16 f)
-    go false f =
-        let i = ltb-false k 16 f in
-        let z : getD l k 0 ≡ 0 = List·getD-eq-default l 0 (omega arith) in
-        omega arith
-
--- ---- the second loop: k parts are counted
 
 pub no-parts : (d : List ℕ) (start far : ℕ) (from : Measure) → from .at ≤ from .best → Counted d start (16 * far) from (0 * far) from
 no-parts d start far from u = let z : 0 * far ≡ 0 = omega arith in rw z (none-counted d start (16 * far) from u)
 
-module _ (d : List ℕ) (start far k : ℕ) (from m : Measure) (q : (start + 16 * far ≤ length d) × (far % 8 ≡ 0) × (far ≤ 4064)) (s : Counted d start (16 * far) from (k * far) m) where
+pub no-feeds : (d : List ℕ) (start far : ℕ) → 0 ≡ lineFeeds (part d start (0 * far))
+no-feeds d start far = let z : 0 * far ≡ 0 = omega arith in rw z
+
+module _ (d : List ℕ) (start far k : ℕ) (from m : Measure) (q : (start + 16 * far ≤ length d) × (far % 16 ≡ 0) × (far ≤ 4064)) (s : Counted d start (16 * far) from (k * far) m) where
   module _ (c : k < 16) where
     pub part-fits : start + k * far + far ≤ length d
     part-fits = let p = past-part k far c in omega (arith, q .0)
@@ -308,8 +243,29 @@ module _ (d : List ℕ) (start far k : ℕ) (from m : Measure) (q : (start + 16 
         let a : k * far + far ≡ (k + 1) * far = sym (rw (add-one k) (suc-mul k far)) in
         rw a at (counted-on d start (16 * far) from (k * far) m (q .0) s far (past-part k far c) r e)
 
+    -- and the line feeds
+    pub feeds-on : (n f : ℕ) → n ≡ lineFeeds (part d start (k * far)) → f ≡ lineFeeds (part d (start + k * far) far) → n ≤ k * far → (f ≤ far) × (n + f ≡ lineFeeds (part d start ((k + 1) * far))) × (n + f ≤ (k + 1) * far)
+    feeds-on n f en ef l =
+        let a : k * far + far ≡ (k + 1) * far = sym (rw (add-one k) (suc-mul k far)) in
+        let b : f ≤ far = rw (← ef, length-part d (start + k * far) far part-fits) at (feeds-few (part d (start + k * far) far)) in
+        let e : lineFeeds (part d start (k * far + far)) ≡ lineFeeds (part d start (k * far)) + lineFeeds (part d (start + k * far) far) = ap lineFeeds (part-more d start (k * far) far) ∙ feeds-both (part d start (k * far)) (part d (start + k * far) far) in
+        let g : n + f ≡ lineFeeds (part d start (k * far + far)) = omega (arith, e, en, ef) in
+        (b, rw a at g, omega (arith, a, b, l))
+
   pub all-parts : k ≡ 16 → m ≡ measure from (part d start (16 * far))
   all-parts e = let l = s .left in rw (e, part-end d start (16 * far) (16 * far) (q .0) (omega arith)) at l
+
+-- what is known stays known
+pub best-grows : (b : ℕ) (m r : Measure) (v : List ℕ) → b ≤ m .best → r ≡ measure m v → b ≤ r .best
+best-grows b m r v h e = rw e (let f = best-free (m .at) (m .best) v .1 in omega (arith, f))
+
+-- both numbers of all parts
+pub all-counted : (n : ℕ) (m from : Measure) (v : List ℕ) → n ≡ lineFeeds v → m ≡ measure from v → record { feeds = n; at = m .at; best = m .best } ≡ countedOf from v
+all-counted n m from v e f = rw (e, f)
+
+-- the columns of what is counted
+pub by-counted : (s : Counts) (from : Measure) (v : List ℕ) → s ≡ countedOf from v → record { at = s .at; best = s .best } ≡ measure from v
+by-counted s from v e = rw e
 
 -- the first bytes by parts, the others after them
 pub by-first : (d : List ℕ) (start n k : ℕ) (from m : Measure) → start + n ≤ length d → from .at ≤ from .best → k ≤ n → m ≡ measure from (part d start k) → Counted d start n from k m

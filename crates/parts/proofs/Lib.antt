@@ -1,1 +1,3 @@
 pub mod JoinLaws
+pub mod LongLaws
+pub mod ShortLaws

@@ -85,7 +85,7 @@ length-get ps k i v h l = shown-or (valueFrom ps (source ps k i)) v (shown-from 
 abbrev stepMost : ℕ
 stepMost = 4294967296
 
-feeds-few : (v : List ℕ) → lineFeeds v ≤ length v
+pub feeds-few : (v : List ℕ) → lineFeeds v ≤ length v
 feeds-few [] = omega arith
 feeds-few (x ∷ xs) = go (eqb x 10) (feeds-few xs)
   where

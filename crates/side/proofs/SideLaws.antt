@@ -79,8 +79,8 @@ four-turned a b c d e f g h i j p q r s m kp kq kr ks =
     ∙ turned-to b c g _ (32 * r + 16 * s + 2 * j + p) q (64 * q + 32 * r + 16 * s + 2 * j + p) (omega arith) (omega arith) (omega arith) kq
     ∙ turned-to a b f _ (32 * q + 16 * r + 8 * s + j) p _ (omega arith) (omega arith) (omega arith) kp
 
-pub by-shuffles : (t : List ℕ) (start far : ℕ) (a b c d e : List ℕ) → Laid t start far 16 a → Shuffled a 64 b → Shuffled b 64 c → Shuffled c 64 d → Shuffled d 64 e → SideBySide t start far e
-by-shuffles t start far a b c d e l f g h i = record { told = λ j k m n. told j k m n }
+pub by-shuffles : (t : List ℕ) (start far : ℕ) (a b c d e : List ℕ) → Laid t start far 16 a → Shuffled a 64 b → Shuffled b 64 c → Shuffled c 64 d → Shuffled d 64 e → length e ≡ 128 → SideBySide t start far e
+by-shuffles t start far a b c d e l f g h i o = record { long = o; told = λ j k m n. told j k m n }
   where
     told : (j k : ℕ) → j < 8 → k < 16 → getD e (16 * j + k) 0 ≡ getD t (start + k * far + j) 0
     told j k m n =

@@ -22,4 +22,5 @@ pub record Shuffled (d : List ℕ) (n : ℕ) (l : List ℕ) : Type 0 where
 
 -- byte j of part k stands at 16 * j + k
 pub record SideBySide (d : List ℕ) (start far : ℕ) (l : List ℕ) : Type 0 where
+  pub long : length l ≡ 128
   pub told : (j k : ℕ) → j < 8 → k < 16 → getD l (16 * j + k) 0 ≡ getD d (start + k * far + j) 0

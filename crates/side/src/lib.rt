@@ -31,7 +31,7 @@ fn lay(to: &mut [u8], text: &[u8], start: usize, far: usize)
 // Both halves, a byte of each in turn: four times, and the parts stand side by side. Vector code has an instruction for it.
 fn shuffle(to: &mut [u8], from: &[u8; 128])
     requires { ⌜ length (now to) ≡ 128 ⌝ }
-    ensures { λ _. ⌜ Shuffled (now (from .entry)) 64 (now (to .exit)) ⌝ }
+    ensures { λ _. ⌜ (length (now (to .exit)) ≡ 128) × Shuffled (now (from .entry)) 64 (now (to .exit)) ⌝ }
 {
     let mut i = 0;
     while i < 64 {

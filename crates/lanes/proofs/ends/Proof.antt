@@ -6,8 +6,8 @@ use Prim.Native.Nat.{_-_, _≤_}
 use lib.Dec.{ltb}
 use lib.ListN.{getD}
 use Rattle.rules.specs.Base.{if_then_else_}
-use Rattle.lanes.specs.Lanes.{Mapped}
-use Rattle.lanes.proofs.LaneLaws.{mapped-none, mapped-on}
+use Rattle.steps.specs.Steps.{Mapped}
+use Rattle.steps.proofs.ArrayLaws.{mapped-none, mapped-on}
 use Rattle.lanes.proofs.ends.Statement.{statement}
 use Rattle.lanes.proofs.ends.Tie as tie
 

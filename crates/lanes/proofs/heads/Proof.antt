@@ -1,16 +1,17 @@
 use borrow.Author.Needs.{needs}
 use native.Mathlib.Omega.{arith}
-use mathlib.Core.Path.{_≡_}
+use mathlib.Core.Path.{_≡_, ap}
 use denote.Ref.{now}
-use Prim.Native.Nat.{_+_, _-_, _%_, _≤_}
+use Prim.Native.Nat.{ℕ, _+_, _-_, _%_, _≤_}
 use lib.ListN.{getD}
-use Rattle.lanes.specs.Lanes.{Mapped}
-use Rattle.lanes.proofs.LaneLaws.{mapped-none, mapped-on, mapped-below, low-three, low-seven, head}
+use Rattle.steps.specs.Steps.{Mapped}
+use Rattle.steps.proofs.ArrayLaws.{mapped-none, mapped-on, mapped-below}
+use Rattle.lanes.proofs.LaneLaws.{low-three}
 use Rattle.lanes.proofs.heads.Statement.{statement}
 use Rattle.lanes.proofs.heads.Tie as tie
 
 abbrev Inv-loop : tie.InvT-loop
-Inv-loop at₀ h k₀ at k = (k ≤ 16) × Mapped k (λ k x. x - x % 8 + getD h k 0 % 128) at₀ at
+Inv-loop at₀ h k₀ at k = (k ≤ 16) × Mapped k (λ k x. x - x % 8 + (getD h k 0 - 120)) at₀ at
 
 abbrev μ-loop : tie.MeasureT-loop
 μ-loop at₀ h k₀ at k = 16 - k
@@ -36,15 +37,25 @@ sub-at c = let l = c .before .before .before .loop in omega (arith, low-three (g
 element-copy-out-at-3 : tie.Need-element-copy-out-at-3 Inv-loop μ-loop
 element-copy-out-at-3 c = search needs
 
+sub-at-2 : tie.Need-sub-at-2 Inv-loop μ-loop
+sub-at-2 c =
+    let s = c .before .before .before .before in
+    let o = s .before .pre .2 .from (s .loop .k) (omega arith) in
+    omega (arith, o)
+
 cast-at : tie.Need-cast-at Inv-loop μ-loop
-cast-at c = let l = c .before .before .before .before in omega (arith, low-seven (getD (now (l .before .args .h)) (l .loop .k) 0))
+cast-at c =
+    let s = c .before .before .before .before in
+    let o = s .before .pre .2 .below (s .loop .k) (omega arith) in
+    omega (arith, o)
 
 add-at : tie.Need-add-at Inv-loop μ-loop
 add-at c =
     let s = c .before .before .before .before in
     let l = s .loop in
-    let b = mapped-below _ _ (l .k) 65408 (l .at) (l .inv .1) (s .before .pre .1) in
-    omega (arith, b, low-three (getD (l .at) (l .k) 0), low-seven (getD (now (s .before .args .h)) (l .k) 0))
+    let b = mapped-below _ _ (l .k) 65280 (l .at) (l .inv .1) (s .before .pre .1) in
+    let o = s .before .pre .2 .below (l .k) (omega arith) in
+    omega (arith, b, o, low-three (getD (l .at) (l .k) 0))
 
 mul-at-3 : tie.Need-mul-at-3 Inv-loop μ-loop
 mul-at-3 c = search needs
@@ -62,7 +73,7 @@ loop-again : tie.Need-loop-again Inv-loop μ-loop
 loop-again c =
     let l = c .before .before .before .before .loop in
     let a = c .before .before .before .before .before .args in
-    (search needs, mapped-on _ (now (a .at)) (l .k) _ (l .at) (omega arith) (l .inv .1) (head (getD (l .at) (l .k) 0) (getD (now (a .h)) (l .k) 0)))
+    (search needs, mapped-on _ (now (a .at)) (l .k) _ (l .at) (omega arith) (l .inv .1) (ap (λ (n : ℕ). getD (l .at) (l .k) 0 - n + (getD (now (a .h)) (l .k) 0 - 120)) (low-three (getD (l .at) (l .k) 0))))
 
 returns : tie.Need-returns Inv-loop μ-loop
 returns c =
@@ -83,6 +94,7 @@ heads-spec =
     element-copy-out-at-2
     sub-at
     element-copy-out-at-3
+    sub-at-2
     cast-at
     add-at
     mul-at-3

@@ -4,13 +4,14 @@ use mathlib.Core.Path.{_≡_, ap}
 use denote.Ref.{now}
 use Prim.Native.Nat.{ℕ, _+_, _-_, _%_, _≤_}
 use lib.ListN.{getD}
-use Rattle.lanes.specs.Lanes.{Mapped}
-use Rattle.lanes.proofs.LaneLaws.{mapped-none, mapped-on, low-three}
+use Rattle.steps.specs.Steps.{Mapped}
+use Rattle.steps.proofs.ArrayLaws.{mapped-none, mapped-on}
+use Rattle.lanes.proofs.LaneLaws.{low-three}
 use Rattle.lanes.proofs.phases.Statement.{statement}
 use Rattle.lanes.proofs.phases.Tie as tie
 
 abbrev Inv-loop : tie.InvT-loop
-Inv-loop c₀ at k₀ c k = (k ≤ 16) × Mapped k (λ k x. getD at k 0 % 8 + 128) c₀ c
+Inv-loop c₀ at k₀ c k = (k ≤ 16) × Mapped k (λ k x. getD at k 0 % 8 + 120) c₀ c
 
 abbrev μ-loop : tie.MeasureT-loop
 μ-loop c₀ at k₀ c k = 16 - k
@@ -43,7 +44,7 @@ loop-again : tie.Need-loop-again Inv-loop μ-loop
 loop-again c =
     let l = c .before .before .loop in
     let a = c .before .before .before .args in
-    (search needs, mapped-on _ (now (a .c)) (l .k) _ (l .c) (omega arith) (l .inv .1) (ap (λ (n : ℕ). n + 128) (low-three (getD (now (a .at)) (l .k) 0))))
+    (search needs, mapped-on _ (now (a .c)) (l .k) _ (l .c) (omega arith) (l .inv .1) (ap (λ (n : ℕ). n + 120) (low-three (getD (now (a .at)) (l .k) 0))))
 
 returns : tie.Need-returns Inv-loop μ-loop
 returns c =

@@ -5,8 +5,8 @@ use denote.Ref.{now}
 use Prim.Native.Nat.{_-_, _≤_, max}
 use lib.Bits.{bitAnd}
 use lib.ListN.{getD}
-use Rattle.lanes.specs.Lanes.{Mapped}
-use Rattle.lanes.proofs.LaneLaws.{mapped-none, mapped-on}
+use Rattle.steps.specs.Steps.{Mapped}
+use Rattle.steps.proofs.ArrayLaws.{mapped-none, mapped-on}
 use Rattle.lanes.proofs.tops.Statement.{statement}
 use Rattle.lanes.proofs.tops.Tie as tie
 

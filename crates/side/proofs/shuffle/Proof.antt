@@ -63,7 +63,7 @@ returns : tie.Need-returns Inv-loop μ-loop
 returns c =
     let l = c .before .loop in
     let z : l .i ≡ 64 = omega arith in
-    rw z at (l .inv .2)
+    (l .inv .1, rw z at (l .inv .2))
 
 pub shuffle-spec : {M : Type 1} → statement M
 shuffle-spec =

@@ -32,7 +32,7 @@ returns c =
     let laid = first .before .before .before in
     let a = laid .before .before .before .args in
     by-shuffles (a .text .now) (a .start) (a .far) (laid .lay .last .0) (first .shuffle .last .0) (second .shuffle2 .last .0) (third .shuffle3 .last .0) (c .shuffle4 .last .0)
-    (laid .lay .ensures) (first .shuffle .ensures) (second .shuffle2 .ensures) (third .shuffle3 .ensures) (c .shuffle4 .ensures)
+    (laid .lay .ensures) (first .shuffle .ensures .1) (second .shuffle2 .ensures .1) (third .shuffle3 .ensures .1) (c .shuffle4 .ensures .1) (c .shuffle4 .ensures .0)
 
 pub side-by-side-spec : {M : Type 1} → statement M
 side-by-side-spec =
