@@ -55,6 +55,11 @@ fn show(what: &str, found: &[Found]) {
     }
 }
 
+/// The sheet that `search 500 2` finds slowest beside the Rust.
+pub fn slowest() -> Costly {
+    sheet(&mut Dice::new(2, 360)).0
+}
+
 fn tried(seed: u64, turn: u64) -> Option<Found> {
     let (costly, about) = sheet(&mut Dice::new(seed, turn));
     let bytes = costly.encode();
