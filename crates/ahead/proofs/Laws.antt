@@ -21,8 +21,9 @@ use Rattle.rules.specs.Tokens.{Token}
 use Rattle.rules.specs.Sheet.{tokenOf, tokensFrom, hereAt}
 use Rattle.rules.specs.Span.{sortOf, sortIn, stopsAt, countedIn, scan, unread, spanLimit}
 use Rattle.around.specs.Readable.{Readable}
-use Rattle.around.specs.Lists.{tokens-step, tokens-none, readable-length}
-use Rattle.ahead.specs.Small.{Small, grows}
+use Rattle.around.proofs.Lists.{tokens-step, tokens-none, readable-length}
+use Rattle.ahead.specs.Small.{Small}
+use Rattle.ahead.proofs.Small.{grows}
 
 -- ---- the sort of a token, of kind k
 

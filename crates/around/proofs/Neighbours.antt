@@ -19,8 +19,9 @@ use Rattle.rules.specs.Formatter.{kindIs, kindIn, notWhite, previousToken, prev
 use Rattle.tokens.specs.Placed.{Within}
 use Rattle.around.specs.declared.Seen.{Seen}
 use Rattle.around.specs.declared.Seen.the-variants as seen
-use Rattle.around.specs.Readable.{Readable, readable-within, readable-record}
-use Rattle.around.specs.Lists.{tokens-step, tokens-none, before-none, before-back}
+use Rattle.around.specs.Readable.{Readable}
+use Rattle.around.proofs.Readable.{readable-within, readable-record}
+use Rattle.around.proofs.Lists.{tokens-step, tokens-none, before-none, before-back}
 use Rattle.around.specs.Seen.{seenOf, seenNo}
 
 -- ---- one of three nobers

@@ -15,7 +15,7 @@ use Rattle.rules.specs.Words.{wordAt, placeAt, tokenFrom, tokenAt}
 use Rattle.rules.specs.Sheet.{bodyPart, tokenOf}
 use Rattle.tokens.specs.Placed.{Within}
 use Rattle.ascii.specs.Part.{before}
-use Rattle.around.specs.Lists.{length-part}
+use Rattle.around.proofs.Lists.{length-part}
 
 -- ---- its length
 

@@ -1,4 +1,3 @@
 pub mod Readable
-pub mod Lists
 pub mod Run
 pub mod Seen

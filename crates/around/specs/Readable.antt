@@ -1,27 +1,10 @@
--- What a reader around a token asks of a sheet, and that a checked sheet meets it.
+-- What a reader around a token asks of a sheet.
 use mathlib.Core.List.{List}
-use Prim.Native.Nat.{ℕ, _+_, _*_, _≤_, _<_}
-use native.Mathlib.Omega.{arith}
+use Prim.Native.Nat.{ℕ, _≤_}
 use lib.ListN.{length}
-use Rattle.rules.specs.declared.Counts.{Counts}
-use Rattle.rules.specs.Words.{tokensAt, bodyAt}
-use Rattle.tokens.specs.Placed.{Within, Placed}
-use Rattle.records.specs.Sheeted.{Sheeted}
+use Rattle.tokens.specs.Placed.{Placed}
 
 -- the tokens lie within it, and it is short: no sum of lengths wraps
 pub record Readable (s : List ℕ) (base n : ℕ) : Type 0 where
   pub placed : Placed s base n
   pub short : length s ≤ 65536
-
-pub sheeted-readable : (s : List ℕ) (c : Counts) → Sheeted s c → Readable s (bodyAt c) (c .tokens)
-sheeted-readable s c h =
-    let f = h .few in
-    let l = h .long in
-    record { placed = h .tokens; short = omega arith }
-
--- token i of n
-pub readable-within : {s : List ℕ} {base n i : ℕ} → Readable s base n → i < n → Within s base i
-readable-within {s} {base} {n} {i} h l = h .placed .within i l
-
-pub readable-record : {s : List ℕ} {base n i : ℕ} → Readable s base n → i < n → tokensAt + 20 * i + 20 ≤ length s
-readable-record h l = readable-within h l .record-in

@@ -24,8 +24,8 @@ use Rattle.rules.specs.Words.{tokenAt}
 use Rattle.rules.specs.Sheet.{tokenOf, tokensFrom, hereAt}
 use Rattle.rules.specs.InlineBlock.{partOf, isTop, isNewline, closesAt, levelAfter, startAfter, spanAfter, measuredIn, measured, isForbiddenToken, forbid, buildFrom, unbuilt, buildInfo, isInlineBlock}
 use Rattle.around.specs.Readable.{Readable}
-use Rattle.around.specs.Lists.{tokens-step, tokens-none, readable-length}
-use Rattle.blocks.specs.Built.{build-none, build-stop, build-go}
+use Rattle.around.proofs.Lists.{tokens-step, tokens-none, readable-length}
+use Rattle.blocks.proofs.Built.{build-none, build-stop, build-go}
 
 -- ---- the part of a kind that the match leaves to its last arm
 

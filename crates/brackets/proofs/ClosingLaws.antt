@@ -30,8 +30,9 @@ use Rattle.query.specs.declared.Value.{Value}
 use Rattle.query.proofs.Halves as halves
 use Rattle.state.specs.declared.State.{State as Code}
 use Rattle.state.specs.declared.Context.{Context}
-use Rattle.state.specs.Words.{onWords, closed-words, level-words}
-use Rattle.state.specs.Below.{below-up, closed-below}
+use Rattle.state.specs.Words.{onWords}
+use Rattle.state.proofs.Words.{closed-words, level-words}
+use Rattle.state.proofs.Below.{below-up, closed-below}
 use Rattle.state.specs.Of.{valueIn, wordOf, stateOf, Ready, envIn, hereIn, Handled}
 use Rattle.state.proofs.Laws.{value-is}
 use Rattle.brackets.specs.Brackets.{caseIn, bracketIn, endsUnder, closingOf}

@@ -17,7 +17,7 @@ use Rattle.rules.specs.State.{State}
 use Rattle.rules.specs.Indentation.{Indentation}
 use Rattle.rules.specs.Formatter.{formatReservedWord}
 use Rattle.ascii.specs.Part.{part as bytes}
-use Rattle.keeps.specs.CaseOf.{rules-case}
+use Rattle.keeps.proofs.CaseOf.{rules-case}
 use Rattle.text.specs.Held.{Laid}
 use Rattle.text.specs.declared.Text.{Text as CodeText}
 use Rattle.indentation.specs.Of.{Stands}

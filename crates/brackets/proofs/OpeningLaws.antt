@@ -21,7 +21,7 @@ use Rattle.rules.specs.State.{State}
 use Rattle.rules.specs.Indentation.{Indentation, indentLevel, increaseBlockLevel, previousTopLevelReserved}
 use Rattle.rules.specs.InlineBlock.{isActive, isInlineBlock, beginsInline, beginIfPossible}
 use Rattle.rules.specs.Formatter.{kindIs, previousNonWhitespaceToken, foldsIn, cutsBefore, blankBetween, formatOpeningParentheses}
-use Rattle.stacks.specs.Laws.{length-stack, right-of}
+use Rattle.stacks.proofs.StackLaws.{length-stack, right-of}
 use Rattle.ascii.specs.Part.{part as bytes}
 use Rattle.text.specs.Held.{textOf, Laid}
 use Rattle.text.specs.declared.Text.{Text as CodeText}
@@ -37,8 +37,9 @@ use Rattle.query_brackets.specs.Opening.{opening}
 use Rattle.query_brackets.specs.declared.Opening.{Opening}
 use Rattle.state.specs.declared.State.{State as Code}
 use Rattle.state.specs.declared.Context.{Context}
-use Rattle.state.specs.Words.{onWords, block-words, last-top-level, level-words}
-use Rattle.state.specs.Below.{below-up, block-below}
+use Rattle.state.specs.Words.{onWords}
+use Rattle.state.proofs.Words.{block-words, last-top-level, level-words}
+use Rattle.state.proofs.Below.{below-up, block-below}
 use Rattle.state.specs.Of.{valueIn, wordOf, stateOf, Ready, envIn, hereIn, Handled, given}
 use Rattle.state.proofs.Laws.{value-is}
 use Rattle.brackets.specs.Brackets.{caseIn, bracketIn, foldedIn, openingIn}

@@ -14,8 +14,8 @@ use Rattle.rules.specs.declared.Checked.the-variants.{Sound, Size, Word, Place,
 use Rattle.rules.specs.Words.{countsOf, bodyAt}
 use Rattle.rules.specs.Checks.{firstOf, countsFit, sizes, words, places, bodyByte, bodyBytes, checkedAs, checked}
 use Rattle.records.specs.Sheeted.{Few}
-use Rattle.checks.specs.Passes.{fit-few}
-use Rattle.checks.specs.Sound.{answer-sized}
+use Rattle.checks.proofs.Passes.{fit-few}
+use Rattle.checks.proofs.Sound.{answer-sized}
 
 -- ---- checks 2 to 4
 

@@ -13,7 +13,7 @@ use Rattle.rules.specs.declared.Offence.{Offence}
 use Rattle.rules.specs.declared.Offence.the-variants.{At, Nowhere}
 use Rattle.rules.specs.Checks.{firstOf, bodyByte}
 use Rattle.checks.specs.Table.{isFound}
-use Rattle.checks.specs.Passes.{Ascii, none-ascii}
+use Rattle.checks.proofs.Passes.{Ascii, none-ascii}
 
 -- `all` tells whether k bytes are
 pub record Told (s : List ℕ) (from k all : ℕ) : Type 0 where

@@ -1,3 +1,5 @@
+pub mod Sound
+pub mod Passes
 pub mod FirstLaws
 pub mod HighLaws
 pub mod CheckLaws

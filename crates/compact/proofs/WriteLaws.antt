@@ -24,7 +24,7 @@ use Rattle.ascii.specs.Part.{part}
 use Rattle.ascii.proofs.PartLaws.{length-part}
 use Rattle.text.specs.Put.{put}
 use Rattle.text.proofs.PutLaws.{put-nil, put-snoc, drop-replicate}
-use Rattle.word_bytes.specs.WordLaws.{part-four}
+use Rattle.word_bytes.proofs.WordLaws.{part-four}
 use Rattle.word_bytes.proofs.PutLaws.{put-more}
 use Rattle.compact.specs.Marked.{Marked}
 use Rattle.compact.proofs.CoverLaws.{kept-bits}

@@ -10,7 +10,7 @@ use Rattle.rules.specs.declared.Outcome.{Outcome}
 use Rattle.rules.specs.Words.{wordAt}
 use Rattle.rules.specs.Checks.{checked}
 use Rattle.converted.specs.Converted.{converted, Conversion, convertAs, convert, convertOutcome, sheetAfter}
-use Rattle.converted.specs.Laws.{one-withdrawn, other-kept, is-withdrawn, not-withdrawn}
+use Rattle.converted.proofs.Laws.{one-withdrawn, other-kept, is-withdrawn, not-withdrawn}
 
 -- all that the call promises
 abbrev Told : List ℕ → Conversion → Outcome → List ℕ → Type 0

@@ -1,2 +1,3 @@
+pub mod Unique
 pub mod Table
 pub mod Laws

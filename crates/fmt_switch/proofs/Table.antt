@@ -11,7 +11,7 @@ use native.Mathlib.Omega.{arith}
 use lib.Dec.{eqb}
 use lib.ListN.{length, getD}
 use borrow.Author.Tests.{eqb-true}
-use Rattle.stacks.specs.Laws.{same-or}
+use Rattle.stacks.proofs.StackLaws.{same-or}
 use Rattle.rules.specs.Bytes.{bytes}
 use Rattle.rules.specs.Base.{if_then_else_, anyOf, first}
 use Rattle.rules.specs.Switch.{stay, next, answer, OnLetters, _↪_, fmtTable, inState, movedBy, movedTo, moved}

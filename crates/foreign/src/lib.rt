@@ -1,4 +1,4 @@
-// What a text from another formatter is to a sheet (Wish 13): the types alone. What is said of it is a definition and a theorem over the rules, in specs/.
+// What a text from another formatter is to a sheet (Wish 13): the types alone. What is said of it is a definition over the rules, in specs/, and a theorem, in proofs/.
 
 // It is what is due; or it is not, from a token on; or a refusal's number and place.
 pub enum Verdict {

@@ -24,12 +24,13 @@ use Rattle.rules.specs.declared.SpanInfo.{SpanInfo}
 use Rattle.rules.specs.declared.BlockInfo.{BlockInfo}
 use Rattle.rules.specs.Span.{topLevelTokensInfo}
 use Rattle.rules.specs.InlineBlock.{buildInfo, curLen}
-use Rattle.table.specs.Facts.{SameFacts, opens-alike}
+use Rattle.table.specs.Facts.{SameFacts}
+use Rattle.table.proofs.Facts.{opens-alike}
 use Rattle.inline_block.specs.Of.{inlineBlockOf}
 use Rattle.text.specs.declared.Text.{Text as CodeText}
 use Rattle.state.specs.declared.State.{State as Code}
 use Rattle.state.specs.declared.Context.{Context}
-use Rattle.state.specs.Below.{below-up}
+use Rattle.state.proofs.Below.{below-up}
 use Rattle.state.specs.Of.{stateOf, withText, Ready, envIn, hereIn, Handled, given}
 use Rattle.formatter.specs.Run.{tokenRule, changesKind, changesIn, kindIn}
 

@@ -24,14 +24,15 @@ use Rattle.rules.specs.Formatter.{formatToken, formatPlaceholder}
 use Rattle.rules.specs.Answer.{Answer, laid, refusal, takenAs, taken, unlessRefused, finish, report}
 use Rattle.rules.specs.Rows.{Row, laysOut, rowOf as rulesRow, rowsAfter, clip, trimRow, rows, placeholders, entryWord, listFor, rowsWords}
 use Rattle.rows.specs.Listing.{rowOf, rowsIn, listing, countAfter, Under, InOrder, Words, Listed, entryOf}
-use Rattle.rows.specs.Order.{under-more, under-order, clip-under, add-under}
-use Rattle.rows.specs.Back.{entry-back, rows-after, words-after, rowsTaken}
+use Rattle.rows.proofs.Order.{under-more, under-order, clip-under, add-under}
+use Rattle.rows.proofs.Back.{entry-back, rows-after, words-after, rowsTaken}
 use Rattle.text.specs.Held.{textOf, Held, marked}
 use Rattle.text.proofs.HeldLaws.{text-fits, text-marked}
 use Rattle.fmt_switch.specs.Of.{switchOf}
 use Rattle.fmt_switch.specs.declared.Switch.{Switch as CodeSwitch}
-use Rattle.around.specs.Run.{turnAt, stepAt, rowsFromAt, rows-turn, rows-end, rows-all}
-use Rattle.switched.specs.Count.{countFrom, count-turn, count-all}
+use Rattle.around.specs.Run.{turnAt, stepAt, rowsFromAt}
+use Rattle.around.proofs.Run.{rows-turn, rows-end, rows-all}
+use Rattle.switched.proofs.Count.{countFrom, count-turn, count-all}
 use Rattle.state.specs.declared.State.{State as Code}
 use Rattle.state.specs.declared.Context.{Context}
 use Rattle.state.specs.Of.{stateOf, withText, Known, envIn, hereIn}

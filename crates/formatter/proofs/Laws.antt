@@ -13,7 +13,7 @@ use Rattle.rules.specs.declared.Report.{Report}
 use Rattle.rules.specs.Text.{fits, refused, mark, bytesIn, change, isWhite, trimEnd, trimmed, lines, width}
 use Rattle.rules.proofs.Short.{Short, sheet-short}
 use Rattle.rules.proofs.Lengths.{length-trimStart}
-use Rattle.around.specs.Readable.{sheeted-readable}
+use Rattle.around.proofs.Readable.{sheeted-readable}
 use Rattle.rules.specs.Base.{_▹_}
 use Rattle.rules.specs.Rows.{Row, clip, shift, trimRow}
 use Rattle.rows.specs.Listing.{rowsIn, listing}
@@ -21,7 +21,7 @@ use Rattle.rules.specs.Sheet.{tokenOf, tokensFrom, tokensBefore}
 use Rattle.rules.specs.Nested.{Nested}
 use Rattle.rules.proofs.Inner.{blocks-few}
 use Rattle.rules.proofs.Nested.{nested-start, nested-next}
-use Rattle.around.specs.Lists.{tokens-step}
+use Rattle.around.proofs.Lists.{tokens-step}
 use Rattle.rules.specs.Span.{sortOf, sortIn}
 use Rattle.ahead.proofs.Laws.{by-sort}
 use Rattle.rules.specs.Indentation.{noIndentation}
@@ -40,11 +40,13 @@ use Rattle.fmt_switch.specs.declared.Switch.{Switch as CodeSwitch}
 use Rattle.query.specs.declared.Value.{Value}
 use Rattle.report.specs.Finished.{finished}
 use Rattle.report.specs.declared.Finished.{Finished}
-use Rattle.around.specs.Run.{runFrom, turnAt, stepAt, run-turn, run-end, run-all}
+use Rattle.around.specs.Run.{runFrom, turnAt, stepAt}
+use Rattle.around.proofs.Run.{run-turn, run-end, run-all}
 use Rattle.state.specs.declared.State.{State as Code}
 use Rattle.state.specs.declared.Context.{Context}
-use Rattle.state.specs.Words.{onWords, none-words}
-use Rattle.state.specs.Below.{none-below}
+use Rattle.state.specs.Words.{onWords}
+use Rattle.state.proofs.Words.{none-words}
+use Rattle.state.proofs.Below.{none-below}
 use Rattle.state.specs.Of.{valueIn, wordOf, stateOf, withText, Known, Steady, Ready, envIn, hereIn, Handled}
 use Rattle.state.proofs.Laws.{value-is}
 use Rattle.formatter.specs.Run.{kindIn, answerIn, Begun, Stepped}

@@ -18,7 +18,7 @@ use Rattle.rules.specs.declared.SpanInfo.{SpanInfo}
 use Rattle.rules.specs.Base.{if_then_else_, when, full}
 use Rattle.rules.specs.Indentation.{Indentation, PreviousTokens, noIndentation, isSingle, asked, markReserved, markTopLevel, increaseTopLevel, increaseBlockLevel, decreaseTopLevel, popTop, decreaseBlockLevel, popBlock, setPreviousReserved, setPreviousTopLevel, lastTopLevel, lastReserved, previousReserved, previousTopLevelReserved, unfolded, indentLevel, span, noPrevious as noneBefore}
 use Rattle.stacks.specs.Stack.{stack, Kept, withinOf}
-use Rattle.stacks.specs.Laws.{length-stack, stack-push, stack-put, stack-pop, stack-popped, kept-push, kept-put, kept-pop, every-set, kept-none, every-same, same-or, left-of, right-of, unless-both, tail-map}
+use Rattle.stacks.proofs.StackLaws.{length-stack, stack-push, stack-put, stack-pop, stack-popped, kept-push, kept-put, kept-pop, every-set, kept-none, every-same, same-or, left-of, right-of, unless-both, tail-map}
 use Rattle.indentation.specs.declared.Indentation.{Indentation as Code}
 use Rattle.indentation.specs.declared.Previous.{Previous}
 use Rattle.indentation.specs.Of.{reservedAfter, topLevelAfter, topIn, typeOf, kindFor, wordOf, marksOf, topSpan, topOf, previousOf, entry, noPrevious, entryFor, typesOf, indentationOf, lastOf, tops, endsTop, Told, Clean, Stands, StandsClosed}

@@ -11,7 +11,7 @@ use borrow.Author.Tests.{lt-ltb}
 use Rattle.rules.specs.Base.{if_then_else_}
 use Rattle.rules.specs.InlineBlock.{isActive, curLen, beginIfPossible}
 use Rattle.stacks.specs.Stack.{withinOf}
-use Rattle.stacks.specs.Laws.{length-stack, stack-push, stack-pop, stack-popped, kept-none, kept-push, kept-pop}
+use Rattle.stacks.proofs.StackLaws.{length-stack, stack-push, stack-pop, stack-popped, kept-none, kept-push, kept-pop}
 use Rattle.inline_block.specs.declared.InlineBlock.{InlineBlock}
 use Rattle.inline_block.specs.Of.{inlineBlockOf, Clean, Stands}
 

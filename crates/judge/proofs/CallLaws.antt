@@ -13,10 +13,11 @@ use Rattle.rules.specs.Checks.{checked}
 use Rattle.rules.specs.Sheet.{optionsOf, paramsOf, keepsOf, envOf, tokensOf}
 use Rattle.rules.specs.Switch.{switchedOn}
 use Rattle.matching.specs.Read.{lowBytes}
-use Rattle.matching.specs.Laws.{low-found, low-none}
+use Rattle.matching.proofs.Laws.{low-found, low-none}
 use Rattle.foreign.specs.declared.Verdict.{Verdict}
 use Rattle.foreign.specs.Foreign.{unlessAt, compared, judgeTokens, judgeAs, judge}
-use Rattle.foreign.specs.Walk.{barredFrom, barred-is}
+use Rattle.foreign.specs.Walk.{barredFrom}
+use Rattle.foreign.proofs.Walk.{barred-is}
 use Rattle.judge.specs.Asked.{offenceAt}
 
 some-at : (o : Option ℕ) (i : ℕ) → offenceAt o ≡ At i → o ≡ some i

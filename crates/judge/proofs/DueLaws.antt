@@ -29,8 +29,9 @@ use Rattle.tokens.specs.Placed.{Inside}
 use Rattle.records.specs.Sheeted.{Sheeted}
 use Rattle.params.specs.declared.Shown.{Shown}
 use Rattle.params.specs.Entries.{shownOf}
-use Rattle.params.specs.Shows.{shown-bytes, shown-inside, shown-index}
-use Rattle.keeps.specs.CaseOf.{caseOf, rules-case}
+use Rattle.params.proofs.Shows.{shown-bytes, shown-inside, shown-index}
+use Rattle.keeps.specs.CaseOf.{caseOf}
+use Rattle.keeps.proofs.CaseOf.{rules-case}
 use Rattle.ascii.specs.Part.{part}
 use Rattle.matching.specs.declared.Reached.{Reached}
 use Rattle.matching.specs.Read.{readTo, reachedOf}

@@ -22,15 +22,16 @@ use Rattle.rules.specs.Rows.{laysOut}
 use Rattle.rules.specs.Room.{counterAfter}
 use Rattle.rules.specs.Due.{strip}
 use Rattle.records.specs.Sheeted.{Sheeted}
-use Rattle.places.specs.Laws.{list-next, list-end}
-use Rattle.params.specs.Shows.{key-in, value-in}
-use Rattle.switched.specs.Count.{when-most}
+use Rattle.places.proofs.Laws.{list-next, list-end}
+use Rattle.params.proofs.Shows.{key-in, value-in}
+use Rattle.switched.proofs.Count.{when-most}
 use Rattle.matching.specs.declared.Reached.{Reached}
 use Rattle.matching.specs.Read.{readTo, reachedOf}
-use Rattle.matching.specs.Laws.{reached-all, reached-left}
+use Rattle.matching.proofs.Laws.{reached-all, reached-left}
 use Rattle.foreign.specs.declared.Verdict.{Verdict}
 use Rattle.foreign.specs.Foreign.{begins, compared}
-use Rattle.foreign.specs.Walk.{barredFrom, walk, walk-is}
+use Rattle.foreign.specs.Walk.{barredFrom, walk}
+use Rattle.foreign.proofs.Walk.{walk-is}
 use Rattle.judge.specs.declared.Due.{Due}
 use Rattle.judge.specs.Asked.{offenceAt, TokenIn, DueIn}
 

@@ -14,7 +14,7 @@ use Rattle.rules.specs.Words.{placeAt, keepsAt, bodyAt}
 use Rattle.rules.specs.Sheet.{bodyPart, listOf, keepOf, keepsOf}
 use Rattle.tokens.specs.Placed.{Inside}
 use Rattle.records.specs.Sheeted.{Sheeted}
-use Rattle.places.specs.Laws.{list-next, list-end}
+use Rattle.places.proofs.Laws.{list-next, list-end}
 use Rattle.keeps.specs.CaseOf.{caseOf}
 
 module _ (s : List ℕ) (c : Counts) (i : ℕ) (h : i < c .keeps) (sheeted : Sheeted s c) where

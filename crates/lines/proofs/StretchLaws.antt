@@ -10,7 +10,7 @@ use lib.Seq.{take-take}
 use borrow.Author.Tests.{eq-eqb}
 use Rattle.rules.specs.Base.{if_then_else_}
 use Rattle.rules.specs.Text.{widthFrom, width}
-use Rattle.rules.proofs.Columns.{longestFrom}
+use Rattle.rules.specs.Columns.{longestFrom}
 use Rattle.ascii.specs.Part.{part, has, before}
 use Rattle.ascii.proofs.PartLaws.{length-part, part-cons, part-more, part-drop, part-end}
 use Rattle.columns.specs.declared.Measure.{Measure}

@@ -16,7 +16,7 @@ ghost use Prim.Native.Nat.{_+_, _*_, _%_, _^_, _≤_, _<_};
 ghost use lib.Dec.{eqb};
 ghost use lib.ListN.{length, take};
 ghost use Rattle.rules.specs.Base.{if_then_else_};
-ghost use Rattle.rules.proofs.Columns.{longestFrom};
+ghost use Rattle.rules.specs.Columns.{longestFrom};
 ghost use Rattle.ascii.specs.Part.{part, has};
 ghost use Rattle.columns.specs.Measured.{measure};
 ghost use Rattle.lines.specs.Marked.{Marked, sizeOf};

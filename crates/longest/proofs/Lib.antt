@@ -1,3 +1,4 @@
+pub mod Unique
 pub mod SameLaws
 pub mod LongestLaws
 pub mod FlagLaws

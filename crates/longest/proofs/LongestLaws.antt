@@ -11,7 +11,7 @@ use lib.ListN.{length, take, drop, getD, replicate, length-drop}
 use lib.Seq.{drop-drop, take-take, getD-take, getD-drop}
 use borrow.Author.Count.{below-more}
 use borrow.Author.Tests.{eq-eqb, ne-eqb, eqb-true, eqb-false}
-use Rattle.rules.proofs.Columns.{longestFrom}
+use Rattle.rules.specs.Columns.{longestFrom}
 use Rattle.ascii.specs.Part.{part, has, before}
 use Rattle.ascii.proofs.PartLaws.{length-part, part-cons, part-suc, part-drop, part-end, part-more}
 use Rattle.ascii.proofs.FindLaws.{has-both}

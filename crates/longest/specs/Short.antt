@@ -4,7 +4,7 @@ use mathlib.Core.Bool.{true, false}
 use mathlib.Core.List.{List}
 use Prim.Native.Nat.{ℕ, _+_, _-_, _≤_, _<_}
 use lib.ListN.{drop, getD}
-use Rattle.rules.proofs.Columns.{longestFrom}
+use Rattle.rules.specs.Columns.{longestFrom}
 use Rattle.ascii.specs.Part.{part, has}
 
 -- of the n bytes of d from start on the first r may be passed where a line of `best` bytes is known: without them the longest line is as long

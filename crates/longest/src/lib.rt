@@ -9,7 +9,7 @@ ghost use Prim.Native.Nat.{_+_, _*_, _^_, _≤_, _<_, min, max};
 ghost use lib.Dec.{eqb};
 ghost use lib.ListN.{length, replicate};
 ghost use Rattle.rules.specs.Base.{if_then_else_, same};
-ghost use Rattle.rules.proofs.Columns.{longestFrom};
+ghost use Rattle.rules.specs.Columns.{longestFrom};
 ghost use Rattle.ascii.specs.Part.{part};
 ghost use Rattle.longest.specs.Short.{Passed, Last};
 ghost use Rattle.longest.specs.Flags.{Flags, Flagged, Widened, Reached, AllSet};

@@ -13,7 +13,7 @@ use borrow.Author.Tests.{leb-true, leb-false, le-leb, lt-leb}
 use Rattle.rules.specs.Base.{if_then_else_, anyOf}
 use Rattle.ascii.specs.Part.{part}
 use Rattle.ascii.proofs.PartLaws.{part-suc, length-part}
-use Rattle.foreign.specs.Walk.{any-append}
+use Rattle.foreign.proofs.Walk.{any-append}
 use Rattle.matching.specs.Read.{lowBytes}
 
 -- bytes taken together by `|`

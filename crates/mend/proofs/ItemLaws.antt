@@ -14,9 +14,9 @@ use Rattle.rules.specs.Base.{if_then_else_}
 use Rattle.rules.specs.Words.{wordAt, bodyAt}
 use Rattle.rules.specs.Compacted.{wordCount}
 use Rattle.records.specs.Sheeted.{Few}
-use Rattle.word_bytes.specs.WordLaws.{Small}
+use Rattle.word_bytes.proofs.WordLaws.{Small}
 use Rattle.mended.specs.Mended.{mendedWord, mendedByte, mended, Change, change, wordChanges, byteChanges, changes}
-use Rattle.mended.specs.Laws.{word-mended, byte-mended}
+use Rattle.mended.proofs.Laws.{word-mended, byte-mended}
 use Rattle.mend.specs.declared.Item.{Item}
 use Rattle.mend.specs.Items.{itemCount, itemAt, itemIn, ItemOf, changesTo, rowOf, rowsOf}
 

@@ -15,10 +15,10 @@ use Rattle.rules.specs.Words.{wordAt, wordBytes, bodyAt}
 use Rattle.rules.specs.Compacted.{wordCount}
 use Rattle.checks.specs.Sound.{Sized}
 use Rattle.text.specs.Put.{put}
-use Rattle.word_bytes.specs.WordLaws.{Small}
+use Rattle.word_bytes.proofs.WordLaws.{Small}
 use Rattle.mended.specs.Mended.{mended, Change, change, changeWords, writtenAt, done}
-use Rattle.mended.specs.Laws.{length-mended, small-mended}
-use Rattle.mended.specs.Done.{done-is}
+use Rattle.mended.proofs.Laws.{length-mended, small-mended}
+use Rattle.mended.proofs.Done.{done-is}
 use Rattle.mend.specs.Items.{itemCount, itemAt, itemIn, changesTo, rowsOf, reportOf, RowIn}
 use Rattle.mend.proofs.ItemLaws.{changes-to}
 

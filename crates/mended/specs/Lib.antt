@@ -1,13 +1,3 @@
 pub mod Mended
-pub mod Fits
-pub mod Laws
-pub mod Done
 pub mod Mends
 pub mod Mendings
-pub mod Tables
-pub mod Passing
-pub mod Sound
-pub mod Undone
-pub mod Untouched
-pub mod Theorem
-pub mod Call

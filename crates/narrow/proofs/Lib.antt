@@ -1,2 +1,3 @@
+pub mod Unique
 pub mod NarrowLaws
 pub mod MeaningLaws

@@ -24,10 +24,10 @@ use Rattle.rules.specs.Words.{wordAt, placeAt, paramsAt, bodyAt}
 use Rattle.rules.specs.Sheet.{bodyPart, nameOf}
 use Rattle.tokens.specs.Placed.{Inside}
 use Rattle.records.specs.Sheeted.{Sheeted}
-use Rattle.places.specs.Laws.{part-empty}
+use Rattle.places.proofs.Laws.{part-empty}
 use Rattle.params.specs.declared.Entry.{Entry}
 use Rattle.params.specs.Entries.{KeyIn, firstFrom, hasName, entryNamed, entryKeyed, entryAt, entryFrom, takesNext, entryNumbered, entryIndexed, entryFor, placeIn, foundOf}
-use Rattle.params.specs.Found.{entry-below}
+use Rattle.params.proofs.FoundLaws.{entry-below}
 
 -- ---- find_by_name
 

@@ -18,7 +18,7 @@ use Rattle.rules.specs.Tokens.{Key, named, fromOne}
 use Rattle.rules.specs.Words.{wordAt, bodyAt}
 use Rattle.rules.specs.Sheet.{bodyPart, listOf, keyRead, Param, QueryParams, None, Indexed, Named, paramOf, paramsOf}
 use Rattle.rules.specs.Params.{advances, isRefused, offends}
-use Rattle.places.specs.Laws.{length-part}
+use Rattle.places.proofs.Laws.{length-part}
 use Rattle.params.specs.declared.Found.{Found}
 use Rattle.params.specs.Entries.{KeyIn, takesNext, keyRefused, foundOf, shownOf}
 

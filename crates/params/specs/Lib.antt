@@ -1,4 +1,2 @@
 pub mod Entries
 pub mod Found
-pub mod Shows
-pub mod Unique

@@ -12,7 +12,7 @@ use Rattle.rules.specs.Base.{same}
 use Rattle.rules.specs.Sheet.{bodyPart}
 use Rattle.tokens.specs.Placed.{Inside}
 use Rattle.ascii.proofs.SameLaws.{unlike}
-use Rattle.places.specs.Laws.{length-part}
+use Rattle.places.proofs.Laws.{length-part}
 
 pub by-parts : (s : List ℕ) (base a n b m : ℕ) (p q : Place) (r : Bool) → a ≡ p .start → n ≡ p .len → b ≡ q .start → m ≡ q .len
     → r ≡ same (take n (drop (base + a) s)) (take m (drop (base + b) s)) → r ≡ same (bodyPart s base p) (bodyPart s base q)

@@ -32,11 +32,14 @@ use Rattle.inline_block.specs.Of.{inlineBlockOf}
 use Rattle.query.specs.Query
 use Rattle.query.specs.declared.Value.{Value}
 use Rattle.query.proofs.Halves as halves
-use Rattle.keeps.specs.CaseOf.{caseOf, rules-case}
+use Rattle.keeps.specs.CaseOf.{caseOf}
+use Rattle.keeps.proofs.CaseOf.{rules-case}
 use Rattle.state.specs.declared.State.{State as Code}
 use Rattle.state.specs.declared.Context.{Context}
-use Rattle.state.specs.Words.{onWords, top-words, reserved-words, last-top-level}
-use Rattle.state.specs.Below.{Below, below-up, top-below, reserved-below}
+use Rattle.state.specs.Words.{onWords}
+use Rattle.state.proofs.Words.{top-words, reserved-words, last-top-level}
+use Rattle.state.specs.Below.{Below}
+use Rattle.state.proofs.Below.{below-up, top-below, reserved-below}
 use Rattle.state.specs.Of.{valueIn, wordOf, stateOf, withIndentation, Known, Ready, envIn, hereIn, Handled}
 use Rattle.state.proofs.Laws.{by-halves, value-is}
 use Rattle.reserved.specs.declared.Newline.{Newline}

@@ -16,9 +16,9 @@ use Rattle.rules.specs.Params.{advances}
 use Rattle.rules.specs.Rows.{laysOut}
 use Rattle.rules.specs.Room.{roomOf, counterAfter, roomFrom, room}
 use Rattle.records.specs.Sheeted.{Sheeted}
-use Rattle.places.specs.Laws.{list-next, list-end}
-use Rattle.params.specs.Shows.{key-in, value-in}
-use Rattle.switched.specs.Count.{when-most}
+use Rattle.places.proofs.Laws.{list-next, list-end}
+use Rattle.params.proofs.Shows.{key-in, value-in}
+use Rattle.switched.proofs.Count.{when-most}
 use Rattle.room.specs.declared.Tally.{Tally}
 use Rattle.room.specs.Tallied.{most, TokenIn, Tallied}
 

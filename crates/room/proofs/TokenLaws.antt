@@ -24,11 +24,11 @@ use Rattle.rules.specs.Sheet.{bodyPart, keyRead, paramsOf}
 use Rattle.rules.specs.Params.{advances}
 use Rattle.rules.specs.Rows.{laysOut}
 use Rattle.rules.specs.Room.{roomLaidOut, shownBy, roomOf, counterAfter}
-use Rattle.places.specs.Laws.{length-part}
+use Rattle.places.proofs.Laws.{length-part}
 use Rattle.params.specs.declared.Entry.{Entry}
 use Rattle.params.specs.declared.Shown.{Shown}
 use Rattle.params.specs.Entries.{shownOf}
-use Rattle.params.specs.Shows.{shown-bytes, shown-inside, shown-index}
+use Rattle.params.proofs.Shows.{shown-bytes, shown-inside, shown-index}
 use Rattle.room.specs.Tallied.{most, TokenIn, Showing, Tallied}
 use Rattle.room.proofs.ValueLaws.{place-short}
 

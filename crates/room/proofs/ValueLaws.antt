@@ -22,7 +22,7 @@ use Rattle.records.specs.Sheeted.{Sheeted}
 use Rattle.ascii.specs.Part.{part}
 use Rattle.ascii.proofs.PartLaws.{part-cons, length-part, part-next, part-end}
 use Rattle.ascii.proofs.SameLaws.{unlike}
-use Rattle.places.specs.Laws.{length-part as length-body}
+use Rattle.places.proofs.Laws.{length-part as length-body}
 
 -- ---- the indent
 

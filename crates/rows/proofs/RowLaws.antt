@@ -13,9 +13,9 @@ use Rattle.rules.specs.Base.{if_then_else_, _▹_, when}
 use Rattle.rules.specs.Rows.{Row, between, clip, shift, entryWord, rowWords, rowsWords}
 use Rattle.rows.specs.declared.Span.{Span}
 use Rattle.rows.specs.Listing.{startAt, lenAt, withSpan, entryOf, rowOf, rowAt, rowsIn, listing, countAfter, InOrder, Words, Listed}
-use Rattle.rows.specs.Reads.{length-rows, length-in}
-use Rattle.rows.specs.Back.{clip-rows}
-use Rattle.rows.specs.Order.{order-before, clip-same, clips-same}
+use Rattle.rows.proofs.ReadLaws.{length-rows, length-in}
+use Rattle.rows.proofs.Back.{clip-rows}
+use Rattle.rows.proofs.Order.{order-before, clip-same, clips-same}
 use Rattle.rows.proofs.NumberLaws.{sum-back}
 use Rattle.rows.proofs.WalkLaws.{set-append-add, moved, span-put, due, Left, walk-begins, walk-ends, row, one-more, in-list, start-is, len-is, walk-on}
 

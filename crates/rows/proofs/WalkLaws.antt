@@ -6,7 +6,7 @@ use native.Mathlib.Omega.{arith}
 use lib.ListN.{length, set, replicate, length-append}
 use Rattle.rules.specs.Rows.{Row, rowWords, rowsWords}
 use Rattle.rows.specs.Listing.{startAt, lenAt, withSpan, rowAt, rowsIn, listing, Words}
-use Rattle.rows.specs.Reads.{length-rows, length-in, length-map, start-in, len-in}
+use Rattle.rows.proofs.ReadLaws.{length-rows, length-in, length-map, start-in, len-in}
 
 pub set-append-add : (xs ys : List ℕ) (n a : ℕ) → set (xs ++ ys) (length xs + n) a ≡ xs ++ set ys n a
 set-append-add [] ys n a = let e : 0 + n ≡ n = omega arith in rw e

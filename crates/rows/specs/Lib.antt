@@ -1,4 +1,1 @@
 pub mod Listing
-pub mod Reads
-pub mod Order
-pub mod Back

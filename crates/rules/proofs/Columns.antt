@@ -5,24 +5,8 @@ use mathlib.Core.List.{List, [], _∷_}
 use Prim.Native.Nat.{ℕ, suc, max}
 use native.Mathlib.Omega.{arith}
 use lib.Dec.{eqb}
-use Rattle.rules.specs.Base.{if_then_else_, anyOf}
 use Rattle.rules.specs.Text.{widthFrom, width}
-
--- ---- as it was
-
--- at is the length of the line so far, best that of the longest line before it
-abbrev pub longestFrom : ℕ → ℕ → List ℕ → ℕ
-longestFrom at best [] = max at best
-longestFrom at best (x ∷ xs) = longestFrom (if eqb x 10 then 0 else suc at) (if eqb x 10 then max at best else best) xs
-
--- the longest line, a tab being one byte
-abbrev pub longestLine : List ℕ → ℕ
-longestLine v = longestFrom 0 0 v
-
-abbrev pub hasTab : List ℕ → Bool
-hasTab v = anyOf (λ x. eqb x 9) v
-
--- ---- the theorem
+use Rattle.rules.specs.Columns.{longestFrom, longestLine, hasTab}
 
 -- the largest column so far is the larger of the two that were kept
 same-from : (at best : ℕ) (v : List ℕ) → hasTab v ≡ false → widthFrom at (max at best) v ≡ longestFrom at best v

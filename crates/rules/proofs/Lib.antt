@@ -1,3 +1,4 @@
+pub mod Asked
 pub mod Strip
 pub mod Columns
 pub mod Lengths

@@ -1,15 +1,11 @@
--- The state keeps of a top-level word's span what later tokens ask of it: the four rules that ask get the same from it as from the whole span. Assumes nothing.
-use mathlib.Core.Path.{_≡_, refl}
-use mathlib.Core.Bool.{Bool, true, false, _&&_}
+-- The state keeps of a top-level word's span what later tokens ask of it: the four rules that ask get the same from it as from the whole span.
+use mathlib.Core.Path.{_≡_}
 use mathlib.Core.Option.{some}
 use Prim.Native.Nat.{ℕ}
-use lib.Dec.{eqb, leb}
 use Rattle.rules.specs.declared.Limit.{Limit}
-use Rattle.rules.specs.declared.Limit.the-variants as limit
 use Rattle.rules.specs.declared.SpanInfo.{SpanInfo}
-use Rattle.rules.specs.Base.{if_then_else_, when}
-use Rattle.rules.specs.Indentation.{isSingle, asked, increaseTopLevel as increaseTop}
-use Rattle.rules.specs.State.{State, onIndentation, increaseTopLevel}
+use Rattle.rules.specs.Indentation.{asked}
+use Rattle.rules.specs.State.{State}
 use Rattle.rules.specs.Formatter.{newlineBefore, indentInlined, foldsIn, spanWithin}
 
 pub record Asked (sp : SpanInfo) : Type 0 where
@@ -17,25 +13,3 @@ pub record Asked (sp : SpanInfo) : Type 0 where
   pub indents : (s : State) → indentInlined (some (asked sp)) s ≡ indentInlined (some sp) s
   pub folds : foldsIn (asked sp) ≡ foldsIn sp
   pub fits : (most : ℕ) → spanWithin most (some (asked sp)) ≡ spanWithin most (some sp)
-
-pub asked-same : (sp : SpanInfo) → Asked sp
-unfolding asked isSingle newlineBefore indentInlined foldsIn spanWithin when increaseTopLevel increaseTop onIndentation
-asked-same sp =
-    record {
-      breaks = by-limit;
-      indents = λ s. refl;
-      folds = fold (leb (sp .blocks) 2) (sp .«newline_after») (eqb (sp .arguments) 1);
-      fits = λ most. refl;
-    }
-  where
-    by-limit : (l : Limit) (n : ℕ) → newlineBefore l (some (asked sp)) n ≡ newlineBefore l (some sp) n
-    by-limit limit.None n = refl
-    by-limit (limit.Some most) n = refl
-
-    fold : (few after one : Bool) → (true && (after && eqb (if few && one then 1 else 0) 1)) ≡ (few && (after && one))
-    fold true true true = refl
-    fold true true false = refl
-    fold true false one = refl
-    fold false true true = refl
-    fold false true false = refl
-    fold false false one = refl

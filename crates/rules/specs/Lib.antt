@@ -29,3 +29,4 @@ pub mod Rooms
 pub mod Due
 pub mod Shown
 pub mod Nested
+pub mod Columns

@@ -1,4 +1,4 @@
-// A stack in an array: definitions and laws in specs/, for the crates that keep one; and the numbers that its operations choose.
+// A stack in an array: definitions in specs/ and laws in proofs/, for the crates that keep one; and the numbers that its operations choose.
 // They choose numbers so that they need no branch on the state: where a state differs by the branch, all of it is copied.
 ghost use mathlib.Core.Path.{_≡_};
 ghost use mathlib.Core.Bool.{_&&_};

@@ -19,11 +19,13 @@ use Rattle.indentation.specs.Of.{indentationOf, Stands}
 use Rattle.indentation.specs.declared.Indentation.{Indentation as Stacks}
 use Rattle.query.proofs.Halves.{halves}
 use Rattle.tokens.specs.Placed.{Within}
-use Rattle.around.specs.Readable.{Readable, sheeted-readable, readable-within}
+use Rattle.around.specs.Readable.{Readable}
+use Rattle.around.proofs.Readable.{sheeted-readable, readable-within}
 use Rattle.state.specs.declared.State.{State as Code}
 use Rattle.state.specs.declared.Context.{Context}
 use Rattle.state.specs.Words.{onWords}
-use Rattle.state.specs.Below.{Below, below-up}
+use Rattle.state.specs.Below.{Below}
+use Rattle.state.proofs.Below.{below-up}
 use Rattle.state.specs.Of.{valueIn, wordOf, stateOf, withText, withIndentation, Known, Ready, envIn, hereIn, Handled}
 
 module _ (s : List ℕ) (x : Context) (i : ℕ) (f : Env → Here → State → State) (st : Code) (d : List ℕ) (ready : Ready s x i st d) where

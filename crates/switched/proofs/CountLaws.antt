@@ -22,7 +22,7 @@ use Rattle.rules.specs.Switch.{Switch, turnOf, switchAfter, switchedOn}
 use Rattle.rules.specs.Rows.{laysOut}
 use Rattle.tokens.specs.Placed.{Within}
 use Rattle.records.specs.Sheeted.{Sheeted}
-use Rattle.switched.specs.Count.{when-most, countFrom, count-turn, count-end, mostFrom, most-turn, most-end}
+use Rattle.switched.proofs.Count.{when-most, countFrom, count-turn, count-end, mostFrom, most-turn, most-end}
 
 -- ---- a token
 

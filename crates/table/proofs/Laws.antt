@@ -16,7 +16,7 @@ use Rattle.rules.specs.Sheet.{tokenOf, hereAt}
 use Rattle.rules.specs.Span.{sortIn, scan, unread, spanOf, topLevelTokensInfo}
 use Rattle.rules.specs.InlineBlock.{buildInfo}
 use Rattle.around.specs.Readable.{Readable}
-use Rattle.ahead.specs.Small.{read-small}
+use Rattle.ahead.proofs.Small.{read-small}
 use Rattle.table.specs.Table.{wordOf, column, ReadAs, Filled}
 use Rattle.table.specs.Facts.{SameFacts}
 

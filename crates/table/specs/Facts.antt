@@ -1,27 +1,9 @@
 -- The facts of a block that the layout asks for: its level and its start are not among them.
-use mathlib.Core.Path.{_≡_, refl}
+use mathlib.Core.Path.{_≡_}
 use Rattle.rules.specs.declared.BlockInfo.{BlockInfo}
-use Rattle.rules.specs.declared.FormatOptions.{FormatOptions}
-use Rattle.rules.specs.Sheet.{Env}
-use Rattle.rules.specs.Tokens.{Here}
-use Rattle.rules.specs.State.{State}
-use Rattle.rules.specs.InlineBlock.{isInlineBlock, beginsInline}
-use Rattle.rules.specs.Formatter.{formatOpeningParentheses}
 
 pub record SameFacts (a b : BlockInfo) : Type 0 where
   pub length : a .length ≡ b .length
   pub span : a .«top_level_token_span» ≡ b .«top_level_token_span»
   pub forbidden : a .«has_forbidden_tokens» ≡ b .«has_forbidden_tokens»
   pub reserved : a .«has_reserved_tokens» ≡ b .«has_reserved_tokens»
-
-pub facts-same : (a b : BlockInfo) → a ≡ b → SameFacts a b
-facts-same a b e = rw e (record { length = refl; span = refl; forbidden = refl; reserved = refl })
-
-same-inline : (op : FormatOptions) (a b : BlockInfo) → SameFacts a b → isInlineBlock op a ≡ isInlineBlock op b
-unfolding isInlineBlock
-same-inline op a b h = rw (h .length, h .span, h .forbidden, h .reserved)
-
--- so an opening bracket is laid out alike
-pub opens-alike : (e : Env) (h : Here) (a b : BlockInfo) (s : State) → SameFacts a b → formatOpeningParentheses e h a s ≡ formatOpeningParentheses e h b s
-unfolding formatOpeningParentheses beginsInline
-opens-alike e h a b s f = rw (same-inline (e .options) a b f, f .length)

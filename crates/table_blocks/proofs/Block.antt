@@ -18,7 +18,7 @@ use Rattle.rules.specs.Base.{if_then_else_}
 use Rattle.rules.specs.Sheet.{listOf}
 use Rattle.rules.specs.Tokens.{Token}
 use Rattle.rules.specs.InlineBlock.{isTop, isNewline, levelAfter, closesAt, startAfter, spanAfter, measured, isForbiddenToken, forbid, buildFrom, unbuilt, buildInfo}
-use Rattle.blocks.specs.Built.{build-none, build-stop, build-go}
+use Rattle.blocks.proofs.Built.{build-none, build-stop, build-go}
 use Rattle.table_blocks.specs.Sums.{partAt, depth, size, count, newlineAt, forbiddenAt}
 use Rattle.table_blocks.specs.First.{First, isClose, closeTo}
 use Rattle.table_blocks.specs.Spans.{readSpan, spanFrom}

@@ -15,7 +15,7 @@ use Rattle.rules.specs.Sheet.{tokenOf}
 use Rattle.rules.specs.Tokens.{Token}
 use Rattle.rules.specs.InlineBlock.{levelAfter}
 use Rattle.around.specs.Readable.{Readable}
-use Rattle.around.specs.Lists.{tokens-step, readable-length}
+use Rattle.around.proofs.Lists.{tokens-step, readable-length}
 use Rattle.table.specs.Table.{wordOf, Blocks}
 use Rattle.table_blocks.specs.declared.Counted.{Counted}
 use Rattle.table_blocks.specs.declared.End.{End}

@@ -10,7 +10,7 @@ use Rattle.rules.specs.declared.Part.{Part}
 use Rattle.rules.specs.declared.Part.the-variants as part
 use Rattle.rules.specs.Tokens.{Token}
 use Rattle.rules.specs.InlineBlock.{isTop}
-use Rattle.stacks.specs.Laws.{same-or}
+use Rattle.stacks.proofs.StackLaws.{same-or}
 use Rattle.table.specs.Table.{wordOf}
 use Rattle.table_blocks.specs.Sums.{partAt, depth}
 use Rattle.table_blocks.specs.First.{isClose, topAt, topOf, closeTo}

@@ -10,7 +10,7 @@ use Rattle.rules.specs.declared.Sort.the-variants as sort
 use Rattle.rules.specs.Sheet.{listOf, tokenOf, tokensFrom}
 use Rattle.rules.specs.Span.{sortIn}
 use Rattle.around.specs.Readable.{Readable}
-use Rattle.around.specs.Lists.{readable-length}
+use Rattle.around.proofs.Lists.{readable-length}
 use Rattle.table_spans.specs.declared.Rest.{Rest}
 use Rattle.table_spans.specs.declared.Rests.{Rests}
 use Rattle.table_spans.specs.Back.{nothing, longer, insideIn, backIn, levelIn, spanIn, otherIn, readBack, totalOf, othersOf, Few, FewRests}

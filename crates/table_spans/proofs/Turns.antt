@@ -15,7 +15,7 @@ use Rattle.rules.specs.Tokens.{Token}
 use Rattle.rules.specs.Sheet.{tokenOf, tokensFrom, hereAt}
 use Rattle.rules.specs.Span.{sortIn, scan, unread}
 use Rattle.around.specs.Readable.{Readable}
-use Rattle.around.specs.Lists.{tokens-step, tokens-none}
+use Rattle.around.proofs.Lists.{tokens-step, tokens-none}
 use Rattle.table.specs.Table.{wordOf, ReadAs, Spans, SameBlocks}
 use Rattle.table_spans.specs.declared.Rest.{Rest}
 use Rattle.table_spans.specs.declared.Rests.{Rests}

@@ -1,3 +1,4 @@
+pub mod Unique
 pub mod PutLaws
 pub mod HeldLaws
 pub mod AppendLaws

@@ -1,2 +1,3 @@
+pub mod PackedLaws
 pub mod Match
 pub mod Build

@@ -33,8 +33,10 @@ use Rattle.query.proofs.Halves as halves
 use Rattle.keeps.specs.CaseOf.{caseOf}
 use Rattle.state.specs.declared.State.{State as Code}
 use Rattle.state.specs.declared.Context.{Context}
-use Rattle.state.specs.Words.{onWords, top-words, untop-words, top-level-words, last-top-level}
-use Rattle.state.specs.Below.{Below, below-up, top-below, untop-below, top-level-below}
+use Rattle.state.specs.Words.{onWords}
+use Rattle.state.proofs.Words.{top-words, untop-words, top-level-words, last-top-level}
+use Rattle.state.specs.Below.{Below}
+use Rattle.state.proofs.Below.{below-up, top-below, untop-below, top-level-below}
 use Rattle.state.specs.Of.{valueIn, wordOf, stateOf, withIndentation, Known, Ready, envIn, hereIn, Handled, given}
 use Rattle.state.proofs.Laws.{by-halves}
 use Rattle.rules.specs.Base.{if_then_else_, when, full}

@@ -17,14 +17,15 @@ use Rattle.rules.specs.Answer.{Answer, refusal, isWithdrawn, answerAs, answer, 
 use Rattle.rules.specs.Base.{if_then_else_}
 use Rattle.rules.specs.Rows.{rows, placeholders, toLayOut, isShort, listedAs, listed, listFor, listAs, listedReport, listedBuffer, listAfter}
 use Rattle.records.specs.Sheeted.{Sheeted}
-use Rattle.switched.specs.Count.{mostPlaceholders, laid-most, few-placeholders}
+use Rattle.switched.specs.Count.{mostPlaceholders}
+use Rattle.switched.proofs.Count.{laid-most, few-placeholders}
 use Rattle.twigmantle.specs.Called.{calledAs, listCalled}
 use Rattle.text.specs.Put.{put}
 use Rattle.rules.specs.declared.Outcome.{Outcome}
 use Rattle.rules.specs.Compacted.{refusal as unwritten, compactAs, compact, outcomeOf, bufferWith, Compacts}
-use Rattle.compacted.specs.Call.{call-compacts}
+use Rattle.compacted.proofs.Call.{call-compacts}
 use Rattle.converted.specs.Converts.{Stored}
-use Rattle.converted.specs.Call.{call-stored}
+use Rattle.converted.proofs.Call.{call-stored}
 
 -- a buffer that is filled with zero is that of a refusal
 zeroed : (d q : List ℕ) → q ≡ put d 0 (replicate (length d) 0) → q ≡ replicate (length d) 0

@@ -8,7 +8,7 @@ use lib.Dec.{eqb}
 use lib.ListN.{length}
 use native.Mathlib.Omega.{arith}
 use borrow.Author.Tests.{eqb-true}
-use Rattle.stacks.specs.Laws.{left-of, right-of}
+use Rattle.stacks.proofs.StackLaws.{left-of, right-of}
 use Rattle.rules.specs.Base.{choose, same}
 use Rattle.rules.specs.Bytes.{bytes}
 use Rattle.rules.specs.Sheet.{Env}

@@ -24,14 +24,15 @@ use Rattle.query.specs.declared.Value.{Value}
 use Rattle.query.proofs.Halves as halves
 use Rattle.state.specs.declared.State.{State as Code}
 use Rattle.state.specs.declared.Context.{Context}
-use Rattle.state.specs.Words.{none-words, last-reserved, last-top-level}
+use Rattle.state.proofs.Words.{none-words, last-reserved, last-top-level}
 use Rattle.state.specs.Of.{valueIn, wordOf, stateOf, withText, withIndentation, Ready, envIn, hereIn, Handled}
 use Rattle.indentation.specs.declared.Word.{Word}
 use Rattle.indentation.specs.declared.Word.the-variants as word
 use Rattle.indentation.specs.declared.TopLevel.{TopLevel}
 use Rattle.indentation.specs.declared.TopLevel.the-variants as top
 use Rattle.rules.specs.Bytes.{bytes as text}
-use Rattle.state.specs.Below.{WordBelow, none-below}
+use Rattle.state.specs.Below.{WordBelow}
+use Rattle.state.proofs.Below.{none-below}
 use Rattle.state.proofs.Laws.{by-value, by-halves, level-is, value-is}
 use Rattle.values.specs.Comma.{limitIn, breaksIn}
 use Rattle.values.specs.On.{onValue}

@@ -20,16 +20,16 @@ use Rattle.text.specs.declared.Text.{Text as CodeText}
 use Rattle.query.specs.Query
 use Rattle.query.specs.declared.Value.{Value}
 use Rattle.query.proofs.Halves as halves
-use Rattle.around.specs.Readable.{sheeted-readable}
+use Rattle.around.proofs.Readable.{sheeted-readable}
 use Rattle.params.specs.declared.Shown.{Shown}
-use Rattle.places.specs.Laws.{length-part}
+use Rattle.places.proofs.Laws.{length-part}
 use Rattle.tokens.specs.Placed.{Inside}
 use Rattle.params.specs.Entries.{KeyIn, shownOf}
-use Rattle.params.specs.Shows.{key-in, value-in, shown-bytes, shown-inside, shown-source, shown-below, shown-index, shown-step}
+use Rattle.params.proofs.Shows.{key-in, value-in, shown-bytes, shown-inside, shown-source, shown-below, shown-index, shown-step}
 use Rattle.state.specs.declared.State.{State as Code}
 use Rattle.state.specs.declared.Context.{Context}
 use Rattle.state.specs.Of.{wordOf, stateOf, Ready, envIn, hereIn, Handled}
-use Rattle.state.specs.Below.{below-up}
+use Rattle.state.proofs.Below.{below-up}
 use Rattle.params.specs.declared.Entry.{Entry}
 use Rattle.params.specs.Found.{numberIn, Below as Under}
 use Rattle.rules.specs.Rows.{entryWord, rowOf}

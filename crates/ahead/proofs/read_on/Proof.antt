@@ -1,6 +1,6 @@
 use Prim.Native.Nat.{_-_}
-use Rattle.around.specs.Readable.{readable-within}
-use Rattle.around.specs.Lists.{readable-length}
+use Rattle.around.proofs.Readable.{readable-within}
+use Rattle.around.proofs.Lists.{readable-length}
 use Rattle.ahead.proofs.Laws.{Reading, reading-starts, reading-ends, reading-small, reading-stops, reading-turns}
 use borrow.Author.Needs.{needs}
 use Rattle.ahead.proofs.read_on.Statement.{statement}

@@ -1,4 +1,4 @@
-use Rattle.around.specs.Readable.{readable-within}
+use Rattle.around.proofs.Readable.{readable-within}
 use Rattle.around.proofs.Neighbours.{by-no-blank, by-blank-close, by-blank-word}
 use borrow.Author.Needs.{needs}
 use Rattle.around.proofs.blank_between.Statement.{statement}

@@ -1,4 +1,4 @@
-use Rattle.around.specs.Readable.{readable-within}
+use Rattle.around.proofs.Readable.{readable-within}
 use Rattle.around.proofs.Neighbours.{by-cut, by-no-cut, by-bracket}
 use borrow.Author.Needs.{needs}
 use Rattle.around.proofs.cuts_before.Statement.{statement}

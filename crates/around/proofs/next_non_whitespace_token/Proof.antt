@@ -1,5 +1,5 @@
 use Prim.Native.Nat.{_-_, _≤_}
-use Rattle.around.specs.Readable.{readable-record}
+use Rattle.around.proofs.Readable.{readable-record}
 use Rattle.around.proofs.Neighbours.{Ahead, by-next, by-white-on, by-none-after}
 use borrow.Author.Needs.{needs}
 use Rattle.around.proofs.next_non_whitespace_token.Statement.{statement}

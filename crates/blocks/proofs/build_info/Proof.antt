@@ -1,6 +1,6 @@
 use borrow.Author.Needs.{needs}
 use Prim.Native.Nat.{_-_}
-use Rattle.around.specs.Readable.{readable-within, readable-record}
+use Rattle.around.proofs.Readable.{readable-within, readable-record}
 use Rattle.blocks.proofs.Laws.{info, Measuring, measuring-starts, measuring-ends, part-as, by-next, length-room, level-room, measuring-closes, measuring-turns}
 use Rattle.blocks.proofs.build_info.Statement.{statement}
 use Rattle.blocks.proofs.build_info.Tie as tie

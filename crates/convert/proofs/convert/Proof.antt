@@ -1,6 +1,6 @@
 use mathlib.Core.Path.{refl}
 use denote.Ref.{now}
-use Rattle.checks.specs.Sound.{answer-sheeted}
+use Rattle.checks.proofs.Sound.{answer-sheeted}
 use Rattle.converted.specs.Converted.{convertAs, sheetAfter}
 use Rattle.convert.proofs.Laws.{by-found, by-refused}
 use borrow.Author.Needs.{needs}

@@ -1,5 +1,5 @@
 use Rattle.state.proofs.Laws.{known-readable}
-use Rattle.table.specs.Facts.{facts-same}
+use Rattle.table.proofs.Facts.{facts-same}
 use borrow.Author.Needs.{needs}
 use Rattle.formatter.proofs.block_info.Statement.{statement}
 use Rattle.formatter.proofs.block_info.Tie as tie

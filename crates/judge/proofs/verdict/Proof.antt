@@ -1,7 +1,7 @@
 use mathlib.Core.Path.{refl}
 use denote.Ref.{now}
 use Rattle.foreign.specs.Foreign.{judgeAs}
-use Rattle.checks.specs.Sound.{answer-sheeted}
+use Rattle.checks.proofs.Sound.{answer-sheeted}
 use Rattle.judge.proofs.CallLaws.{by-checked}
 use borrow.Author.Needs.{needs}
 use Rattle.judge.proofs.verdict.Statement.{statement}

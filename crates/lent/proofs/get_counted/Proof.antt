@@ -54,7 +54,7 @@ use Rattle.records.specs.Sheeted.{Sheeted}
 use Rattle.params.specs.declared.Found.{Found}
 use Rattle.params.specs.declared.Shown.{Shown}
 use Rattle.params.specs.Entries.{KeyIn, foundOf as foundIn, shownOf}
-use Rattle.params.specs.Shows.{found-shown}
+use Rattle.params.proofs.Shows.{found-shown}
 use Rattle.params.proofs.Found as F
 use Rattle.params.proofs.Found.Laws as F′
 use Rattle.params.proofs.Shown as S

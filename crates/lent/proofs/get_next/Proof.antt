@@ -51,7 +51,7 @@ use Rattle.rules.proofs.Token as K
 use Rattle.rules.proofs.Token.Laws as K′
 use Rattle.records.specs.Sheeted.{Sheeted}
 use Rattle.params.specs.declared.Shown.{Shown}
-use Rattle.params.specs.Shows.{shown-found}
+use Rattle.params.proofs.Shows.{shown-found}
 use Rattle.params.proofs.Found as F
 use Rattle.params.proofs.Found.Laws as F′
 use Rattle.params.specs.Entries.{KeyIn, shownOf}

@@ -4,7 +4,7 @@ use borrow.Author.Needs.{needs}
 use mathlib.Core.Path.{_≡_}
 use Prim.Native.Nat.{_+_, _-_, _≤_}
 use lib.ListN.{drop}
-use Rattle.rules.proofs.Columns.{longestFrom}
+use Rattle.rules.specs.Columns.{longestFrom}
 use Rattle.ascii.specs.Part.{part}
 use Rattle.longest.proofs.LongestLaws.{by-run, by-line, by-end}
 

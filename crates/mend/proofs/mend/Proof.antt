@@ -1,6 +1,6 @@
 use lib.ListN.{length}
 use denote.Ref.{now}
-use Rattle.checks.specs.Sound.{answer-sized}
+use Rattle.checks.proofs.Sound.{answer-sized}
 use Rattle.checks.proofs.CheckLaws.{head-in}
 use Rattle.mend.proofs.CallLaws.{own-zeros, by-one, by-sized}
 use borrow.Author.Needs.{needs}

@@ -1,6 +1,6 @@
 use denote.Ref.{now}
 use Rattle.rules.specs.Room.{roomAs}
-use Rattle.checks.specs.Sound.{answer-sheeted}
+use Rattle.checks.proofs.Sound.{answer-sheeted}
 use Rattle.room.proofs.CallLaws.{by-refused}
 use borrow.Author.Needs.{needs}
 use Rattle.room.proofs.room_for.Statement.{statement}

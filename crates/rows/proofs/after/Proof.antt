@@ -1,5 +1,5 @@
 use Rattle.rows.proofs.RowLaws.{after-none, after-add, count-one, count-same}
-use Rattle.rows.specs.Back.{clip-words}
+use Rattle.rows.proofs.Back.{clip-words}
 use Prim.Native.Nat.{_+_, _*_, _≤_}
 use mathlib.Core.Path.{_≡_}
 use lib.ListN.{length}

@@ -3,9 +3,9 @@ use denote.Ref.{now}
 use native.Mathlib.Omega.{arith}
 use Rattle.table_blocks.proofs.Fills.{short-of, length-small, newlines-small, forbidden-small, counted-on}
 use Rattle.table_blocks.proofs.Words.{bit-le}
-use Rattle.around.specs.Lists.{readable-length}
+use Rattle.around.proofs.Lists.{readable-length}
 use Prim.Native.Nat.{_+_}
-use Rattle.around.specs.Readable.{readable-within}
+use Rattle.around.proofs.Readable.{readable-within}
 use borrow.Author.Needs.{needs}
 use Rattle.table_blocks.proofs.count_in.Statement.{statement}
 use Rattle.table_blocks.proofs.count_in.Tie as tie

@@ -5,7 +5,7 @@ use denote.Ref.{now}
 use borrow.Author.Needs.{needs}
 use Rattle.table_blocks.proofs.Fills.{Depths, depths-begin, level-small, depths-on, depths-end, short-of}
 use Prim.Native.Nat.{_-_}
-use Rattle.around.specs.Readable.{readable-record}
+use Rattle.around.proofs.Readable.{readable-record}
 use native.Mathlib.Omega.{arith}
 use Rattle.table_blocks.proofs.put_depths.Statement.{statement}
 use Rattle.table_blocks.proofs.put_depths.Tie as tie

@@ -2,7 +2,7 @@ use Rattle.rules.specs.Sheet.{tokenOf}
 use denote.Ref.{now}
 use Rattle.table_blocks.proofs.Tables.{rows-rest}
 use Rattle.rules.specs.InlineBlock.{partOf}
-use Rattle.around.specs.Readable.{readable-record}
+use Rattle.around.proofs.Readable.{readable-record}
 use mathlib.Core.Path.{refl, sym, ap, _∙_}
 use borrow.Author.Needs.{needs}
 use Rattle.table_blocks.proofs.put_row.Statement.{statement}

@@ -1,6 +1,6 @@
 use native.Mathlib.Omega.{arith}
-use Rattle.around.specs.Readable.{readable-within}
-use Rattle.around.specs.Lists.{readable-length}
+use Rattle.around.proofs.Readable.{readable-within}
+use Rattle.around.proofs.Lists.{readable-length}
 use Rattle.table_spans.proofs.Bounds.{few-read}
 use Rattle.table_spans.proofs.Turns.{past-few, past-less, through-few, turn-open, turn-saved, turn-unsaved}
 use borrow.Author.Needs.{needs}

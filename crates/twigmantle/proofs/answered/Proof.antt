@@ -1,6 +1,6 @@
 use mathlib.Core.Path.{refl}
 use denote.Ref.{now}
-use Rattle.checks.specs.Sound.{answer-sheeted}
+use Rattle.checks.proofs.Sound.{answer-sheeted}
 use Rattle.twigmantle.proofs.Laws.{by-size, by-word, by-place, by-byte}
 use Rattle.twigmantle.proofs.OnceLaws.{by-found-once, once-size, once-word, once-place, once-byte}
 use borrow.Author.Needs.{needs}

@@ -1,5 +1,5 @@
 use Rattle.twigmantle.proofs.Laws.{five-fit, by-asked, by-unasked, by-ample, by-most}
-use Rattle.switched.specs.Count.{few-most, few-placeholders}
+use Rattle.switched.proofs.Count.{few-most, few-placeholders}
 use denote.Ref.{now}
 use borrow.Author.Needs.{needs}
 use borrow.Author.Tests.{not-true, not-false}

@@ -2,7 +2,7 @@ use mathlib.Core.Path.{_≡_, refl}
 use Prim.Native.Nat.{ℕ}
 use native.Mathlib.Omega.{arith}
 use denote.Ref.{now}
-use Rattle.around.specs.Readable.{sheeted-readable}
+use Rattle.around.proofs.Readable.{sheeted-readable}
 use Rattle.twigmantle.proofs.OnceLaws.{untabled, tabled-narrow, tabled-wide}
 use borrow.Author.Needs.{needs}
 use Rattle.twigmantle.proofs.tabled.Statement.{statement}

@@ -1,6 +1,6 @@
 use denote.Ref.{now}
 use Rattle.rules.specs.Compacted.{compactAs}
-use Rattle.checks.specs.Sound.{answer-sheeted}
+use Rattle.checks.proofs.Sound.{answer-sheeted}
 use Rattle.twigmantle.proofs.Laws.{by-written}
 use borrow.Author.Needs.{needs}
 use Rattle.twigmantle.proofs.twigmantle_compact.Statement.{statement}

@@ -1,5 +1,5 @@
 use denote.Ref.{now}
-use Rattle.converted.specs.Call.{call-converts}
+use Rattle.converted.proofs.Call.{call-converts}
 use borrow.Author.Needs.{needs}
 use Rattle.twigmantle.proofs.twigmantle_convert.Statement.{statement}
 use Rattle.twigmantle.proofs.twigmantle_convert.Tie as tie

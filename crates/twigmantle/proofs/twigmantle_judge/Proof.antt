@@ -1,4 +1,4 @@
-use Rattle.foreign.specs.Call.{call-judges}
+use Rattle.foreign.proofs.Call.{call-judges}
 use borrow.Author.Needs.{needs}
 use Rattle.twigmantle.proofs.twigmantle_judge.Statement.{statement}
 use Rattle.twigmantle.proofs.twigmantle_judge.Tie as tie

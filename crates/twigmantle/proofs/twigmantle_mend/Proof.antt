@@ -1,6 +1,6 @@
 use native.Mathlib.Omega.{arith}
 use denote.Ref.{now}
-use Rattle.mended.specs.Call.{call-mends}
+use Rattle.mended.proofs.Call.{call-mends}
 use borrow.Author.Needs.{needs}
 use Rattle.twigmantle.proofs.twigmantle_mend.Statement.{statement}
 use Rattle.twigmantle.proofs.twigmantle_mend.Tie as tie

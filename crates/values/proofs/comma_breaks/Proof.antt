@@ -1,5 +1,5 @@
 use Rattle.indentation.proofs.Laws.{by-reserved-in, by-top-level-in}
-use Rattle.state.specs.Below.{last-below}
+use Rattle.state.proofs.Below.{last-below}
 use Rattle.values.proofs.Laws.{by-active, by-limit, by-within}
 use borrow.Author.Needs.{needs}
 use Rattle.values.proofs.comma_breaks.Statement.{statement}

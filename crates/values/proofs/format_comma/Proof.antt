@@ -1,7 +1,7 @@
 use denote.Ref.{now}
 use mathlib.Core.Path.{refl}
 use Rattle.state.proofs.Laws.{value-inside}
-use Rattle.state.specs.Below.{below-all}
+use Rattle.state.proofs.Below.{below-all}
 use Rattle.values.proofs.Laws.{by-comma}
 use borrow.Author.Needs.{needs}
 use Rattle.values.proofs.format_comma.Statement.{statement}

@@ -1,0 +1,5 @@
+pub mod Laws
+pub mod Checked
+pub mod Commutes
+pub mod Theorem
+pub mod Call

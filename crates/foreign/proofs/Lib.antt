@@ -1,0 +1,4 @@
+pub mod Walk
+pub mod Call
+pub mod Low
+pub mod Laid

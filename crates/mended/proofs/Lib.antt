@@ -1,0 +1,10 @@
+pub mod Fits
+pub mod Laws
+pub mod Done
+pub mod Tables
+pub mod Passing
+pub mod Sound
+pub mod Undone
+pub mod Untouched
+pub mod Theorem
+pub mod Call
