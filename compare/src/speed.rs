@@ -53,8 +53,7 @@ pub fn run(seed: u64, part: &str) -> bool {
             row(shape, size, &sheets);
         }
     }
-    let found = ("slowest of the search".into(), search::slowest());
-    let costly = costly::sheets().into_iter().chain([found]);
+    let costly = costly::sheets().into_iter().chain(search::found());
     for (name, costly) in costly.filter(|sheet| sheet.0.contains(part)) {
         row(&name, costly.tokens.len(), &[costly.encode()]);
     }

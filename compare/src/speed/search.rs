@@ -55,9 +55,12 @@ fn show(what: &str, found: &[Found]) {
     }
 }
 
-/// The sheet that `search 500 2` finds slowest beside the Rust.
-pub fn slowest() -> Costly {
-    sheet(&mut Dice::new(2, 360)).0
+/// Sheets that `search 500 2` found slow beside the Rust, by their turn.
+const FOUND: [(&str, u64); 3] =
+    [("slowest of the search", 360), ("closing brackets at depth", 472), ("types at depth", 200)];
+
+pub fn found() -> Vec<(String, Costly)> {
+    FOUND.map(|(name, turn)| (name.into(), sheet(&mut Dice::new(2, turn)).0)).into()
 }
 
 fn tried(seed: u64, turn: u64) -> Option<Found> {

@@ -1,5 +1,5 @@
 -- The length of a block, a token at a time.
-use mathlib.Core.Bool.{Bool, true, false, not, _||_}
+use mathlib.Core.Bool.{Bool, true, false, not, _||_, or-false}
 use mathlib.Core.Path.{_≡_, refl, ap, sym, _∙_}
 use mathlib.Core.Logic.{_⊎_, ⊎-elim}
 use mathlib.Core.List.{List, [], _∷_}
@@ -18,13 +18,14 @@ use Rattle.rules.specs.declared.Part.the-variants as part
 use Rattle.rules.specs.declared.BlockInfo.{BlockInfo}
 use Rattle.rules.specs.declared.Start.{Start}
 use Rattle.rules.specs.declared.FormatOptions.{FormatOptions}
-use Rattle.rules.specs.Base.{if_then_else_, orZero}
+use Rattle.rules.specs.Base.{if_then_else_, orZero, same}
 use Rattle.rules.specs.Tokens.{Token}
 use Rattle.rules.specs.Words.{tokenAt}
 use Rattle.rules.specs.Sheet.{tokenOf, tokensFrom, hereAt}
 use Rattle.rules.specs.InlineBlock.{partOf, isTop, isNewline, closesAt, levelAfter, startAfter, spanAfter, measuredIn, measured, isForbiddenToken, forbid, buildFrom, unbuilt, buildInfo, isInlineBlock}
 use Rattle.around.specs.Readable.{Readable}
 use Rattle.around.proofs.Lists.{tokens-step, tokens-none, readable-length}
+use Rattle.blocks.specs.Rest.{isRest}
 use Rattle.blocks.proofs.Built.{build-none, build-stop, build-go}
 
 -- ---- the part of a kind that the match leaves to its last arm
@@ -210,6 +211,35 @@ module _ (s : List ℕ) (base n i : ℕ) (b : BlockInfo) (j : ℕ) (r : Measurin
         (j + 1)
     unfolding next
     measuring-turns f g q d forbidden-is forbid-is = rw forbid-is (next-forbids f d forbidden-is q)
+
+-- ---- a token that changes the length alone
+
+rest-is : (p : Part) → isRest p ≡ true → p ≡ part.Rest
+rest-is part.Top h = absurd (let z : _≡_ {A = ℕ} 0 1 = cc in omega arith)
+rest-is part.Newline h = absurd (let z : _≡_ {A = ℕ} 0 1 = cc in omega arith)
+rest-is part.Open h = absurd (let z : _≡_ {A = ℕ} 0 1 = cc in omega arith)
+rest-is part.Close h = absurd (let z : _≡_ {A = ℕ} 0 1 = cc in omega arith)
+rest-is part.Comment h = absurd (let z : _≡_ {A = ℕ} 0 1 = cc in omega arith)
+rest-is part.Rest h = refl
+
+rest-next : (p : Part) (l : ℕ) (b : BlockInfo) → p ≡ part.Rest → Next p l b (b .level) (b .start) (b .«top_level_token_span») (b .«has_reserved_tokens»)
+rest-next p l b e = rw e (record { level-is = refl; start-is = refl; span-is = refl; reserved-is = sym (or-false (b .«has_reserved_tokens»)) })
+
+-- only its value can forbid the block
+rest-forbids : (t : Token) (f : Bool) → partOf (t .kind) ≡ part.Rest → f ≡ same (t .value) (59 ∷ []) → f ≡ isForbiddenToken t
+rest-forbids t f e h = h ∙ rw e
+
+pub measuring-rests : (s : List ℕ) (base n i : ℕ) (b : BlockInfo) (j : ℕ) (r : Measuring s base n i b j) (h : j < n) (k : TokenKind) (p : Part) (l : ℕ) (t f g : Bool) → k ≡ tokenAt s j .kind → p ≡ partOf k
+    → l ≡ length (tokenOf s base j .value) → Readable s base n → t ≡ isRest p → t ≡ true → f ≡ same (tokenOf s base j .value) (59 ∷ []) → g ≡ (b .«has_forbidden_tokens» || f)
+    → Measuring s base n i (info (b .length + l) (b .level) (b .start) (b .«top_level_token_span») g (b .«has_reserved_tokens»)) (j + 1)
+measuring-rests s base n i b j r h k p l t f g kind-is part-is len-is q told taken byte-is forbid-is =
+    let rest : p ≡ part.Rest = rest-is p (sym told ∙ taken) in
+    let here : partOf (tokenOf s base j .kind) ≡ part.Rest = sym (part-as s j k p kind-is part-is) ∙ rest in
+    measuring-turns s base n i b j r h k p l (b .level) (b .start) (b .«top_level_token_span») false (b .«has_reserved_tokens») kind-is part-is len-is (rest-next p l b rest) (rw rest) f g q refl (rest-forbids (tokenOf s base j) f here byte-is) forbid-is
+
+-- both ways meet in the same facts
+pub measuring-same : (s : List ℕ) (base n i m j v v' sp sp' : ℕ) (st st' : Start) (f f' z z' : Bool) → v ≡ v' → st ≡ st' → sp ≡ sp' → f ≡ f' → z ≡ z' → Measuring s base n i (info m v' st' sp' f' z') j → Measuring s base n i (info m v st sp f z) j
+measuring-same s base n i m j v v' sp sp' st st' f f' z z' e1 e2 e3 e4 e5 r = rw (e1, e2, e3, e4, e5) r
 
 -- ---- whether a block is inline
 

@@ -9,6 +9,7 @@ ghost use Rattle.rules.specs.Sheet.{tokenOf, hereAt};
 ghost use Rattle.rules.specs.InlineBlock.{partOf, isTop, isNewline, isComment, levelAfter, closesAt, startAfter, spanAfter, isForbiddenToken, buildInfo, isInlineBlock};
 ghost use Rattle.tokens.specs.Placed.{Within};
 ghost use Rattle.around.specs.Readable.{Readable};
+ghost use Rattle.blocks.specs.Rest.{isRest};
 use ahead::less;
 use ahead::or_zero;
 use around::is_byte;
@@ -58,6 +59,19 @@ pub fn is_newline(part: Part) -> bool
         Part::Close => false,
         Part::Comment => false,
         Part::Rest => false,
+    }
+}
+
+fn is_rest(part: Part) -> bool
+    ensures { λ r. ⌜ r ≡ isRest part ⌝ }
+{
+    match part {
+        Part::Top => false,
+        Part::Newline => false,
+        Part::Open => false,
+        Part::Close => false,
+        Part::Comment => false,
+        Part::Rest => true,
     }
 }
 
@@ -188,7 +202,8 @@ pub fn is_forbidden_token(sheet: &[u8], base: usize, i: usize, part: Part) -> bo
 }
 
 // The tokens from the opening bracket i of n on. The close that ends the block is measured, and not tested for `;`.
-// A number for each fact: a block that changes in place stays in memory, and takes three times as long.
+// A number for each fact: a block that changes in place stays in memory, and takes three times as long. Most tokens change the
+// length alone. They are told first, by one test: else the compiled code jumps by each token's kind, and such jumps are ill foretold.
 pub fn build_info(sheet: &[u8], base: usize, n: usize, i: usize) -> BlockInfo
     requires { ⌜ Readable (now sheet) base n ⌝ }
     requires { ⌜ i < n ⌝ }
@@ -205,22 +220,27 @@ pub fn build_info(sheet: &[u8], base: usize, n: usize, i: usize) -> BlockInfo
     while j < n {
         let part = part_of(kind_at(sheet, j));
         length += value_len(sheet, base, j);
-        span = span_at(part, start, level, length, span);
-        start = start_at(part, start, level, length);
-        level = level_after(part, level);
-        reserved = found_yet(reserved, is_newline(part));
-        if closes(part, level) {
-            return BlockInfo {
-                length,
-                level,
-                start,
-                top_level_token_span: span,
-                has_forbidden_tokens: forbidden,
-                has_reserved_tokens: reserved,
-            };
+        if is_rest(part) {
+            let separates = is_byte(sheet, base, j, b';');
+            forbidden = found_yet(forbidden, separates);
+        } else {
+            span = span_at(part, start, level, length, span);
+            start = start_at(part, start, level, length);
+            level = level_after(part, level);
+            reserved = found_yet(reserved, is_newline(part));
+            if closes(part, level) {
+                return BlockInfo {
+                    length,
+                    level,
+                    start,
+                    top_level_token_span: span,
+                    has_forbidden_tokens: forbidden,
+                    has_reserved_tokens: reserved,
+                };
+            }
+            let forbids = is_forbidden_token(sheet, base, j, part);
+            forbidden = found_yet(forbidden, forbids);
         }
-        let forbids = is_forbidden_token(sheet, base, j, part);
-        forbidden = found_yet(forbidden, forbids);
         j += 1;
     }
     BlockInfo {
