@@ -10,7 +10,7 @@ use Rattle.rules.specs.declared.Sort.{Sort}
 use Rattle.rules.specs.declared.Sort.TheVariants as sort
 use Rattle.rules.specs.declared.Scan.{Scan}
 use Rattle.rules.specs.declared.FormatOptions.{FormatOptions}
-use Rattle.rules.specs.Base.{if◌then◌else◌}
+use Rattle.std.specs.Prelude.{if◌then◌else◌}
 use Rattle.rules.specs.Sheet.{list_of, token_of, tokens_from, here_at}
 use Rattle.rules.specs.Span.{sort_in, stops_at, counted_in, scan, unread, top_level_tokens_info}
 use Rattle.around.specs.Readable.{Readable}

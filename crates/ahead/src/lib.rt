@@ -1,4 +1,6 @@
 // formatter.rs, `top_level_tokens_info`: the span of a top-level word, read from the tokens after it.
+#![tactic(auto)]
+
 ghost use Rattle.std.specs.Prelude.{◌≡◌, ◌-◌, ◌≤◌, ◌<◌, max};
 ghost use Rattle.rules.specs.Bytes.{bytes};
 ghost use Rattle.rules.specs.Base.{same, or_zero};

@@ -1,4 +1,6 @@
 // What stands around a token, read from the sheet: its value, and the tokens before it and after it.
+#![tactic(auto)]
+
 ghost use Rattle.std.specs.Prelude.{◌≡◌, [], ◌∷◌, ◌<◌, eqb, length};
 ghost use Rattle.rules.specs.declared.TokenKind.TheVariants.{Reserved, ReservedTopLevel, ReservedNewline, ReservedNewlineAfter};
 ghost use Rattle.rules.specs.Base.{same, any_of, holds};

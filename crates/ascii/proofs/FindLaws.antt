@@ -8,7 +8,7 @@ use lib.Bits.{bit_or, or_add_and, and_le_l, or_zero_r}
 use lib.Dec.{eqb}
 use lib.ListN.{length, drop, get_or}
 use borrow.Author.Tests.{eq-eqb, ne_eqb, eqb-true}
-use Rattle.rules.specs.Base.{if◌then◌else◌}
+use Rattle.std.specs.Prelude.{if◌then◌else◌}
 use Rattle.ascii.specs.Part.{part, has, before}
 use Rattle.ascii.proofs.PartLaws.{length_part, part-suc, part-next, part_end, part-drop, part-more}
 

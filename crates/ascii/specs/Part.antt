@@ -1,6 +1,6 @@
 -- A part of a list of bytes.
-use Rattle.std.specs.Prelude.{Bool, ◌||◌, List, [], ◌∷◌, ℕ, suc, ◌+◌, ◌*◌, ◌<◌, eqb, take, drop}
-use Rattle.rules.specs.Base.{if◌then◌else◌, any_of}
+use Rattle.std.specs.Prelude.{if◌then◌else◌, Bool, ◌||◌, List, [], ◌∷◌, ℕ, suc, ◌+◌, ◌*◌, ◌<◌, eqb, take, drop}
+use Rattle.rules.specs.Base.{any_of}
 
 -- the n bytes of s from index start
 abbrev pub part : List ℕ → ℕ → ℕ → List ℕ

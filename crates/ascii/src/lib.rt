@@ -1,6 +1,8 @@
 // What the layout asks of bytes: whether one is blank or white, one in another case, and whether two parts are the same.
-ghost use Rattle.std.specs.Prelude.{◌≡◌, ◌||◌, ◌+◌, ◌≤◌, ◌<◌, eqb, length, replicate};
-ghost use Rattle.rules.specs.Base.{if◌then◌else◌, same};
+#![tactic(auto)]
+
+ghost use Rattle.std.specs.Prelude.{if◌then◌else◌, ◌≡◌, ◌||◌, ◌+◌, ◌≤◌, ◌<◌, eqb, length, replicate};
+ghost use Rattle.rules.specs.Base.{same};
 ghost use Rattle.rules.specs.Text.{is_blank, is_white, to_upper, to_lower, byte_in_case, in_case, is_lower};
 ghost use Rattle.ascii.specs.Part.{part, number, Bytes, has, before};
 

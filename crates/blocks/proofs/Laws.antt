@@ -18,7 +18,8 @@ use Rattle.rules.specs.declared.Part.TheVariants as part
 use Rattle.rules.specs.declared.BlockInfo.{BlockInfo}
 use Rattle.rules.specs.declared.Start.{Start}
 use Rattle.rules.specs.declared.FormatOptions.{FormatOptions}
-use Rattle.rules.specs.Base.{if◌then◌else◌, or_zero, same}
+use Rattle.rules.specs.Base.{or_zero, same}
+use Rattle.std.specs.Prelude.{if◌then◌else◌}
 use Rattle.rules.specs.Tokens.{Token}
 use Rattle.rules.specs.Words.{token_at}
 use Rattle.rules.specs.Sheet.{token_of, tokens_from, here_at}

@@ -1,6 +1,7 @@
 // inline_block.rs: the length of a block, and whether it is laid out on one line.
-ghost use Rattle.std.specs.Prelude.{◌≡◌, ◌||◌, ◌∷◌, ◌-◌, ◌<◌, max};
-ghost use Rattle.rules.specs.Base.{if◌then◌else◌};
+#![tactic(auto)]
+
+ghost use Rattle.std.specs.Prelude.{if◌then◌else◌, ◌≡◌, ◌||◌, ◌∷◌, ◌-◌, ◌<◌, max};
 ghost use Rattle.rules.specs.Words.{token_at};
 ghost use Rattle.rules.specs.Sheet.{token_of, here_at};
 ghost use Rattle.rules.specs.InlineBlock.{part_of, is_top, is_newline, is_comment, level_after, closes_at, start_after, span_after, is_forbidden_token, build_info, is_inline_block};

@@ -1,4 +1,6 @@
 // Handlers of brackets: a block begins, and a block ends.
+#![tactic(auto)]
+
 ghost use Rattle.std.specs.Prelude.{◌≡◌, ◌≤◌, ◌<◌, length};
 ghost use Rattle.rules.specs.Base.{holds, is_some};
 ghost use Rattle.rules.specs.InlineBlock.{begins_inline};

@@ -13,7 +13,7 @@ use Rattle.rules.specs.declared.Place.{Place}
 use Rattle.rules.specs.declared.PlaceholderKind.TheVariants as key
 use Rattle.rules.specs.declared.Offence.{Offence}
 use Rattle.rules.specs.declared.Offence.TheVariants.{At, Nowhere}
-use Rattle.rules.specs.Base.{if◌then◌else◌}
+use Rattle.std.specs.Prelude.{if◌then◌else◌}
 use Rattle.rules.specs.Words.{word_at, place_at, counts_of, tokens_at, kind_bits, class_bits, upper_bits, key_of, token_from}
 use Rattle.rules.specs.Checks.{demanded, or_later, first_of, counts_fit, mode_fits, head_words, packed_fits, key_afits, key_bfits, token_words, name_fits, param_words, in_body, key_in_body, token_places, param_places, keep_places, body_byte}
 use Rattle.tokens.specs.Placed.{Inside, Within}

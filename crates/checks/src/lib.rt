@@ -1,4 +1,6 @@
 // Checks 1 to 4 of a sheet.
+#![tactic(auto)]
+
 ghost use Rattle.std.specs.Prelude.{◌≡◌, ◌+◌, ◌*◌, ◌≤◌, length};
 ghost use Rattle.rules.specs.Words.{keeps_at, body_at};
 ghost use Rattle.rules.specs.Checks.{or_later, first_of, counts_fit, sizes, words, places, body_byte, checked_as, checked};
@@ -9,7 +11,7 @@ use records::{body_at, counts_of};
 use rules::{Checked, Counts, Offence};
 
 // A table of the sheet, as a check reads it.
-#[derive(Drop)]
+#[derive(Clone, Copy)]
 enum Table {
     TokenWords,
     ParamWords,

@@ -9,7 +9,7 @@ use native.Mathlib.Omega.{arith}
 use lib.Bits.{bit_or, bit_and, or_block, or_lt, or_add_and, and_le_l, or_zero_r, and_zero_r, and_mask}
 use lib.Dec.{eqb}
 use lib.ListN.{length, drop, get_or}
-use Rattle.rules.specs.Base.{if◌then◌else◌}
+use Rattle.std.specs.Prelude.{if◌then◌else◌}
 use Rattle.rules.specs.Text.{column_after}
 use Rattle.ascii.specs.Part.{part, has}
 use Rattle.ascii.proofs.PartLaws.{length_part, part-more, part-next, part_end, part-drop}

@@ -1,6 +1,7 @@
 // The column that bytes lead to, and the largest on the way: a tab goes to the next multiple of eight.
-ghost use Rattle.std.specs.Prelude.{◌≡◌, false, ◌+◌, ◌-◌, ◌*◌, ◌^◌, ◌≤◌, ◌<◌, eqb, length};
-ghost use Rattle.rules.specs.Base.{if◌then◌else◌};
+#![tactic(auto)]
+
+ghost use Rattle.std.specs.Prelude.{if◌then◌else◌, ◌≡◌, false, ◌+◌, ◌-◌, ◌*◌, ◌^◌, ◌≤◌, ◌<◌, eqb, length};
 ghost use Rattle.rules.specs.Text.{column_after};
 ghost use Rattle.ascii.specs.Part.{part, has};
 ghost use Rattle.columns.specs.Measured.{measure, onward, tabs};
@@ -9,7 +10,7 @@ use ascii::in_run;
 use longest::{all_are, larger};
 
 // The column, and the largest column so far.
-#[derive(Drop)]
+#[derive(Clone, Copy)]
 pub struct Measure {
     pub at: usize,
     pub best: usize,

@@ -1,4 +1,6 @@
 // Comments and type specifiers: handlers that look at the tokens around theirs. They leave the stacks as they are, and give the text alone.
+#![tactic(auto)]
+
 ghost use Rattle.std.specs.Prelude.{◌≡◌, ◌&&◌, ◌<◌};
 ghost use Rattle.rules.specs.Formatter.{after_line_feed, white_then_no_operator, format_line_comment, format_type_specifier, format_block_comment};
 ghost use Rattle.state.specs.Of.{Known, Ready, Handled, here_in, with_text};

@@ -11,7 +11,7 @@ use lib.ListN.{length, get_or, replicate, length-append, length-replicate}
 use borrow.Author.Tests.{le-ltb}
 use Rattle.rules.specs.declared.Place.{Place}
 use Rattle.rules.specs.declared.Counts.{Counts}
-use Rattle.rules.specs.Base.{if◌then◌else◌}
+use Rattle.std.specs.Prelude.{if◌then◌else◌}
 use Rattle.rules.specs.Words.{place_at, body_at}
 use Rattle.rules.specs.Compacted.{word_count, starts_place, covers, covered_by, is_covered, kept_bytes, kept_before}
 use Rattle.records.specs.Sheeted.{Sheeted}

@@ -9,7 +9,7 @@ use borrow.Author.Tests.{lt-ltb, le-ltb, ltb-true, ltb-false, eqb-true, eqb-fals
 use Rattle.rules.specs.declared.Place.{Place}
 use Rattle.rules.specs.declared.Counts.{Counts}
 use Rattle.rules.specs.declared.PlaceholderKind.TheVariants as key
-use Rattle.rules.specs.Base.{if◌then◌else◌}
+use Rattle.std.specs.Prelude.{if◌then◌else◌}
 use Rattle.rules.specs.Words.{word_at, place_at, class_bits, key_of, tokens_at, token_from, token_at, params_at, keeps_at, body_at}
 use Rattle.rules.specs.Compacted.{word_count, starts_in_token, starts_place}
 use Rattle.tokens.specs.Placed.{Inside}

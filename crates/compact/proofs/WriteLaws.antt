@@ -14,7 +14,7 @@ use Rattle.rules.specs.declared.Place.{Place}
 use Rattle.rules.specs.declared.Counts.{Counts}
 use Rattle.rules.specs.declared.Checked.TheVariants as found
 use Rattle.rules.specs.declared.Outcome.{Outcome}
-use Rattle.rules.specs.Base.{if◌then◌else◌}
+use Rattle.std.specs.Prelude.{if◌then◌else◌}
 use Rattle.rules.specs.Words.{word_bytes, place_at, body_at}
 use Rattle.rules.specs.Compacted.{word_count, starts_place, is_covered, kept_bytes, kept_before, new_start, new_bytes, moved_words, compacted, compact_as, outcome_of, buffer_with}
 use Rattle.records.specs.Sheeted.{Sheeted}

@@ -1,7 +1,8 @@
 // Wish 6: the sheet written anew, with only those body bytes that some place covers.
-ghost use Rattle.std.specs.Prelude.{◌≡◌, ◌&&◌, ◌||◌, ℕ, ◌+◌, ◌*◌, ◌≤◌, ◌<◌, eqb, length, take, drop, replicate};
+#![tactic(auto)]
+
+ghost use Rattle.std.specs.Prelude.{if◌then◌else◌, ◌≡◌, ◌&&◌, ◌||◌, ℕ, ◌+◌, ◌*◌, ◌≤◌, ◌<◌, eqb, length, take, drop, replicate};
 ghost use Rattle.rules.specs.declared.Checked.TheVariants as found;
-ghost use Rattle.rules.specs.Base.{if◌then◌else◌};
 ghost use Rattle.rules.specs.Words.{place_at, body_at};
 ghost use Rattle.rules.specs.Compacted.{word_count, starts_in_token, starts_place, covers, is_covered, kept_bytes, kept_before, new_bytes, moved_words, compact_as, outcome_of, buffer_with};
 ghost use Rattle.records.specs.Sheeted.{Sheeted, Few};

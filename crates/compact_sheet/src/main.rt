@@ -1,32 +1,30 @@
 // The compacting program: one sheet on standard input; on standard output the new sheet, or its refusal on standard error.
-use libc::{STDERR_FILENO, STDIN_FILENO, STDOUT_FILENO};
-use rules::Outcome;
+#![tactic(auto)]
 
-fn write_refusal(o: Outcome) {
-    io::write_all(STDERR_FILENO, b"refused ");
-    io::print_decimal(STDERR_FILENO, o.refusal as u64);
-    io::write_all(STDERR_FILENO, b" at ");
-    io::print_decimal(STDERR_FILENO, o.place);
-    io::write_all(STDERR_FILENO, b"\n");
+use rules::Outcome;
+use std::io::{self, Read, Write};
+
+fn write_refusal(rt: &impl Eprint, o: Outcome) -> io::Result<()> {
+    eprintln!(rt; "refused {} at {}", o.refusal, o.place)
 }
 
 // The sheet is within the buffer: the test is there for the part's bound alone.
-fn write_sheet(sheet: &[u8], length: u64) {
+fn write_sheet(rt: &impl Print, sheet: &[u8], length: u64) -> io::Result<()> {
     let n = length as usize;
     if n <= sheet.len() {
-        io::write_all(STDOUT_FILENO, &sheet[..n]);
+        io::writer(rt).write_all(&sheet[..n])?;
     }
+    Ok(())
 }
 
-fn main() {
+fn main(rt: HostRuntime) -> io::Result<()> {
     // Longer than any sound sheet, so that what is not read is refused by its length.
-    let mut sheet = io::large_buffer();
-    let n = io::read_full(STDIN_FILENO, &mut sheet);
-    let mut new = io::large_buffer();
-    let o = twigmantle::twigmantle_compact(&sheet[..n], &mut new);
+    let mut sheet = Vec::new(rt.alloc());
+    rt.reader().take(65536).read_to_end(&mut sheet)?;
+    let mut new = [0; 65536];
+    let o = twigmantle::twigmantle_compact(&sheet, &mut new);
     if o.refusal != 0 {
-        write_refusal(o);
-        return;
+        return write_refusal(&rt, o);
     }
-    write_sheet(&new, o.length);
+    write_sheet(&rt, &new, o.length)
 }

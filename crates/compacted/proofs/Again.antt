@@ -8,7 +8,7 @@ use lib.Dec.{eqb, leb, ltb}
 use lib.Seq.{take-length}
 use borrow.Author.Tests.{leb-true, ltb-true, le-leb, lt-ltb, ne_eqb}
 use Rattle.rules.specs.declared.Counts.{Counts}
-use Rattle.rules.specs.Base.{if◌then◌else◌}
+use Rattle.std.specs.Prelude.{if◌then◌else◌}
 use Rattle.rules.specs.Words.{place_at, body_at}
 use Rattle.rules.specs.Compacted.{word_count, starts_place, covers, covered_by, is_covered, kept_bytes, kept_before, new_start, new_bytes, moved_words, compacted}
 use Rattle.checks.proofs.Passes.{and_left, and_right}

@@ -11,7 +11,7 @@ use lib.ListN.{length, take, drop, get_or, length-append, length-drop}
 use lib.Seq.{take_at, drop_at, drop-append-add, get_or-append-add, length-take-le}
 use borrow.Author.Tests.{ne_eqb}
 use Rattle.rules.specs.declared.Counts.{Counts}
-use Rattle.rules.specs.Base.{if◌then◌else◌}
+use Rattle.std.specs.Prelude.{if◌then◌else◌}
 use Rattle.rules.specs.Words.{word_at, word_bytes, place_at, body_at}
 use Rattle.rules.specs.Compacted.{word_count, starts_place, kept_bytes, kept_before, new_start, new_bytes, moved_words, compacted}
 use Rattle.word_bytes.proofs.WordLaws.{word-part, word_back}

@@ -12,7 +12,7 @@ use lib.Seq.{take-suc, get_or-drop, get_or-append_seam, drop-append_seam, take_a
 use borrow.Author.Tests.{le-leb, lt-ltb}
 use Rattle.rules.specs.declared.Counts.{Counts}
 use Rattle.rules.specs.declared.Place.{Place}
-use Rattle.rules.specs.Base.{if◌then◌else◌}
+use Rattle.std.specs.Prelude.{if◌then◌else◌}
 use Rattle.rules.specs.Words.{place_at, body_at}
 use Rattle.rules.specs.Compacted.{word_count, starts_place, covers, covered_by, is_covered, kept_bytes, kept_before, new_start}
 

@@ -8,7 +8,7 @@ use lib.Dec.{eqb, ltb}
 use lib.ListN.{length, take, drop}
 use borrow.Author.Tests.{eqb-true, ne_eqb, ltb-true, ltb-false, eqb-false}
 use Rattle.rules.specs.declared.Counts.{Counts}
-use Rattle.rules.specs.Base.{if◌then◌else◌}
+use Rattle.std.specs.Prelude.{if◌then◌else◌}
 use Rattle.rules.specs.Words.{word_at, place_at, class_bits, key_of, token_from, counts_of, tokens_at, params_at, keeps_at, body_at}
 use Rattle.rules.specs.Sheet.{body_part}
 use Rattle.rules.specs.Compacted.{starts_in_token, starts_place, is_covered, kept_bytes, kept_before, new_start, compacted}

@@ -13,7 +13,7 @@ use Rattle.rules.specs.declared.Place.{Place}
 use Rattle.rules.specs.declared.Offence.{Offence}
 use Rattle.rules.specs.declared.Offence.TheVariants.{Nowhere}
 use Rattle.rules.specs.declared.Checked.TheVariants as found
-use Rattle.rules.specs.Base.{if◌then◌else◌}
+use Rattle.std.specs.Prelude.{if◌then◌else◌}
 use Rattle.rules.specs.Words.{word_at, place_at, counts_of, class_bits, kind_bits, upper_bits, tokens_at, params_at, keeps_at, body_at}
 use Rattle.rules.specs.Checks.{first_of, sizes, head_words, token_words, param_words, words, in_body, token_places, param_places, keep_places, places, body_byte, body_bytes, checked_as, checked}
 use Rattle.rules.specs.Compacted.{kept_bytes, kept_before, compacted}

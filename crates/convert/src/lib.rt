@@ -1,4 +1,6 @@
 // Wish 12: a sheet with word 7 at 1, which is withdrawn, converted where it lies.
+#![tactic(auto)]
+
 ghost use Rattle.std.specs.Prelude.{◌≡◌, ◌≤◌, length};
 ghost use Rattle.rules.specs.declared.Checked.TheVariants as found;
 ghost use Rattle.records.specs.Sheeted.{Sheeted};

@@ -7,7 +7,7 @@ use Rattle.rules.specs.declared.Counts.{Counts}
 use Rattle.rules.specs.declared.Checked.{Checked}
 use Rattle.rules.specs.declared.Checked.TheVariants as found
 use Rattle.rules.specs.declared.Outcome.{Outcome}
-use Rattle.rules.specs.Base.{if◌then◌else◌}
+use Rattle.std.specs.Prelude.{if◌then◌else◌}
 use Rattle.rules.specs.Checks.{checked}
 use Rattle.rules.specs.Compacted.{compact, outcome_of, buffer_with}
 use Rattle.compacted.proofs.Call.{call_written}

@@ -8,7 +8,7 @@ use lib.Dec.{leb}
 use lib.ListN.{set}
 use Rattle.rules.specs.declared.Counts.{Counts}
 use Rattle.rules.specs.declared.Offence.{Offence}
-use Rattle.rules.specs.Base.{if◌then◌else◌}
+use Rattle.std.specs.Prelude.{if◌then◌else◌}
 use Rattle.rules.specs.Words.{word_at, tokens_at, params_at, keeps_at, body_at, counts_of}
 use Rattle.rules.specs.Checks.{first_of, sizes, head_words, token_words, param_words, words, token_places, param_places, keep_places, places, body_byte, body_bytes, checked_as, checked}
 use Rattle.rules.specs.Answer.{is_withdrawn}

@@ -9,7 +9,7 @@ use lib.ListN.{length, take, drop, get_or, set, length-set}
 use lib.Seq.{get_or-take, get_or-drop, get_or-set_same, get_or-set_other, ext_get_or}
 use borrow.Author.Tests.{eqb-true, eqb-false, ltb-true, ltb-false}
 use Rattle.rules.specs.declared.Counts.{Counts}
-use Rattle.rules.specs.Base.{if◌then◌else◌}
+use Rattle.std.specs.Prelude.{if◌then◌else◌}
 use Rattle.rules.specs.Words.{place_at, tokens_at, body_at}
 use Rattle.rules.specs.Compacted.{word_count, starts_place, covers, covered_by, kept_bytes, new_bytes, compacted}
 use Rattle.word_bytes.proofs.WordLaws.{part-four}

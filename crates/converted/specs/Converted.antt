@@ -1,9 +1,8 @@
 -- Wish 12: word 7 at 1 is withdrawn. What converting a stored sheet gives.
-use Rattle.std.specs.Prelude.{List, ℕ, set}
+use Rattle.std.specs.Prelude.{if◌then◌else◌, List, ℕ, set}
 use Rattle.rules.specs.declared.Checked.{Checked}
 use Rattle.rules.specs.declared.Checked.TheVariants as found
 use Rattle.rules.specs.declared.Outcome.{Outcome}
-use Rattle.rules.specs.Base.{if◌then◌else◌}
 use Rattle.rules.specs.Checks.{checked}
 use Rattle.rules.specs.Answer.{is_withdrawn}
 

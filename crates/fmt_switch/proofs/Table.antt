@@ -13,7 +13,8 @@ use lib.ListN.{length, get_or}
 use borrow.Author.Tests.{eqb-true}
 use Rattle.stacks.proofs.StackLaws.{same_or}
 use Rattle.rules.specs.Bytes.{bytes}
-use Rattle.rules.specs.Base.{if◌then◌else◌, any_of, first}
+use Rattle.rules.specs.Base.{any_of, first}
+use Rattle.std.specs.Prelude.{if◌then◌else◌}
 use Rattle.rules.specs.Switch.{stay, next, answer, OnLetters, ◌↪◌, fmt_table, in_state, moved_by, moved_to, moved}
 use Rattle.fmt_switch.specs.declared.Move.{Move}
 use Rattle.fmt_switch.specs.declared.Move.TheVariants as move

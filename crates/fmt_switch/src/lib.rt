@@ -1,4 +1,6 @@
 // formatter.rs, `check_fmt_off` and how `format` takes a token.
+#![tactic(auto)]
+
 ghost use Rattle.std.specs.Prelude.{◌≡◌, false, ◌||◌, [], ◌+◌, ◌≤◌, ◌<◌, eqb, length, get_or, take, drop};
 ghost use Rattle.std.proofs.Math.Option.{none};
 ghost use Rattle.ascii.specs.Part.{part};
@@ -8,7 +10,7 @@ ghost use Rattle.fmt_switch.specs.Of.{row_of, says_nothing, moved_as, run_of, sa
 use rules::{TokenKind, Turn};
 
 // What a state does on a byte: it stays, goes on to the next, or answers on or off; without an entry for the byte the reading ends.
-#[derive(Drop)]
+#[derive(Clone, Copy)]
 pub enum Move {
     Stay,
     Next,
@@ -18,10 +20,10 @@ pub enum Move {
 }
 
 // On either of two bytes: a letter, small and large.
-#[derive(Drop)]
+#[derive(Clone, Copy)]
 pub struct OnByte(pub u8, pub u8, pub Move);
 
-#[derive(Drop)]
+#[derive(Clone, Copy)]
 pub struct Row(pub OnByte, pub OnByte);
 
 // Where a row has one entry alone.
@@ -143,7 +145,7 @@ pub fn check_fmt_off(s: &[u8], start: usize, n: usize) -> Said
 }
 
 // `is_fmt_enabled` and `is_prev_token_fmt_switch`.
-#[derive(Drop)]
+#[derive(Clone, Copy)]
 pub struct Switch {
     pub enabled: bool,
     pub drop_next: bool,

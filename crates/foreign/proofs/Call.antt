@@ -13,7 +13,8 @@ use Rattle.rules.specs.declared.Case.{Case}
 use Rattle.rules.specs.declared.Counts.{Counts}
 use Rattle.rules.specs.declared.Checked.{Checked}
 use Rattle.rules.specs.declared.Checked.TheVariants as found
-use Rattle.rules.specs.Base.{if◌then◌else◌, same, any_of, find}
+use Rattle.rules.specs.Base.{same, any_of, find}
+use Rattle.std.specs.Prelude.{if◌then◌else◌}
 use Rattle.rules.specs.Tokens.{Token}
 use Rattle.rules.specs.Checks.{checked}
 use Rattle.rules.specs.Sheet.{list_of, token_of, options_of, params_of, keeps_of, QueryParams, Env, env_of, tokens_of}

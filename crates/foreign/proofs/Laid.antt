@@ -15,7 +15,8 @@ use Rattle.rules.specs.declared.Counts.{Counts}
 use Rattle.rules.specs.declared.Report.{Report}
 use Rattle.rules.specs.declared.Checked.{Checked}
 use Rattle.rules.specs.declared.Checked.TheVariants as found
-use Rattle.rules.specs.Base.{if◌then◌else◌, when}
+use Rattle.rules.specs.Base.{when}
+use Rattle.std.specs.Prelude.{if◌then◌else◌}
 use Rattle.rules.specs.Tokens.{Token, Here, is}
 use Rattle.rules.specs.Text.{Text, fits, refused, append, refuse, mark}
 use Rattle.rules.specs.Checks.{checked}

@@ -12,7 +12,8 @@ use Rattle.rules.specs.declared.Case.{Case}
 use Rattle.rules.specs.declared.Case.TheVariants as case
 use Rattle.rules.specs.declared.Counts.{Counts}
 use Rattle.rules.specs.declared.Place.{Place}
-use Rattle.rules.specs.Base.{if◌then◌else◌, same, any_of, find, nth?, or_else}
+use Rattle.rules.specs.Base.{same, any_of, find, nth?, or_else}
+use Rattle.std.specs.Prelude.{if◌then◌else◌}
 use Rattle.rules.specs.Tokens.{Key, absent, named, zero_indexed, one_indexed, Token}
 use Rattle.rules.specs.Text.{byte_in_case, in_case}
 use Rattle.rules.specs.Words.{word_at, body_at, token_at}

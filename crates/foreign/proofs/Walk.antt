@@ -12,7 +12,8 @@ use lib.Seq.{take-append_seam}
 use Rattle.rules.specs.declared.TokenKind.{TokenKind}
 use Rattle.rules.specs.declared.TokenKind.TheVariants as kind
 use Rattle.rules.specs.declared.Turn.{Turn}
-use Rattle.rules.specs.Base.{if◌then◌else◌, same, any_of, or_else, when}
+use Rattle.rules.specs.Base.{same, any_of, or_else, when}
+use Rattle.std.specs.Prelude.{if◌then◌else◌}
 use Rattle.rules.specs.Tokens.{Key, absent, named, zero_indexed, one_indexed, Token, is}
 use Rattle.rules.specs.Sheet.{Env, QueryParams, None, Indexed, Named}
 use Rattle.rules.specs.Params.{get, advances, offends}

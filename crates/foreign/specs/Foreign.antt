@@ -1,11 +1,11 @@
 -- Wish 13: a text from another formatter, held against what demand 3 requires of a sheet. What is due of tokens is `due`, here of the first i of them:
 -- a token that isn't kept adds nothing to it.
-use Rattle.std.specs.Prelude.{Bool, true, false, not, ◌&&◌, List, [], ◌∷◌, ℕ, zero, suc, eqb, leb, length, take}
+use Rattle.std.specs.Prelude.{if◌then◌else◌, Bool, true, false, not, ◌&&◌, List, [], ◌∷◌, ℕ, zero, suc, eqb, leb, length, take}
 use Rattle.std.proofs.Math.Option.{Option, none, some}
 use Rattle.rules.specs.declared.Case.{Case}
 use Rattle.rules.specs.declared.Checked.{Checked}
 use Rattle.rules.specs.declared.Checked.TheVariants as found
-use Rattle.rules.specs.Base.{if◌then◌else◌, same, any_of, find}
+use Rattle.rules.specs.Base.{same, any_of, find}
 use Rattle.rules.specs.Tokens.{Token}
 use Rattle.rules.specs.Checks.{checked}
 use Rattle.rules.specs.Sheet.{QueryParams, options_of, params_of, keeps_of, tokens_of}

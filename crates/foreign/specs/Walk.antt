@@ -1,9 +1,9 @@
 -- The same verdict a token at a time, in the rules' own turns and counter: what the code goes by (`walk_is` of proofs/Walk.antt).
-use Rattle.std.specs.Prelude.{◌&&◌, List, [], ◌∷◌, ℕ, suc, length, drop}
+use Rattle.std.specs.Prelude.{if◌then◌else◌, ◌&&◌, List, [], ◌∷◌, ℕ, suc, length, drop}
 use Rattle.std.proofs.Math.Option.{Option, none, some}
 use Rattle.rules.specs.declared.Turn.{Turn}
 use Rattle.rules.specs.declared.Turn.TheVariants as turn
-use Rattle.rules.specs.Base.{if◌then◌else◌, same}
+use Rattle.rules.specs.Base.{same}
 use Rattle.rules.specs.Tokens.{Token}
 use Rattle.rules.specs.Sheet.{Env, QueryParams}
 use Rattle.rules.specs.Params.{get, offends}

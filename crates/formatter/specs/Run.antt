@@ -1,5 +1,5 @@
 -- What the steps of the run say, and the answer of a sheet in its context.
-use Rattle.std.specs.Prelude.{◌≡◌, List, ℕ, length, replicate, Bool, true, false}
+use Rattle.std.specs.Prelude.{if◌then◌else◌, ◌≡◌, List, ℕ, length, replicate, Bool, true, false}
 use Rattle.rules.specs.declared.TokenKind.{TokenKind}
 use Rattle.rules.specs.Tokens.{Here}
 use Rattle.rules.specs.Sheet.{Env, token_of, tokens_of}
@@ -7,7 +7,6 @@ use Rattle.rules.specs.Switch.{switch_after}
 use Rattle.rules.specs.State.{State, start}
 use Rattle.rules.specs.Formatter.{format_token}
 use Rattle.rules.specs.Answer.{Answer, taken_as, format}
-use Rattle.rules.specs.Base.{if◌then◌else◌}
 use Rattle.rules.specs.Rows.{rows, list_for}
 use Rattle.fmt_switch.specs.Of.{switch_of}
 use Rattle.state.specs.declared.Context.{Context}

@@ -1,4 +1,6 @@
 // formatter.rs, `format`: every token in turn, by the fmt switch and its kind.
+#![tactic(auto)]
+
 ghost use Rattle.std.specs.Prelude.{◌≡◌, true, false, ◌∷◌, map, ℕ, ◌*◌, ◌^◌, ◌≤◌, ◌<◌, length};
 ghost use Rattle.rules.specs.Text.{bytes_in, trimmed};
 ghost use Rattle.rules.specs.declared.TokenKind.TheVariants as kind;

@@ -1,6 +1,5 @@
 -- The two heads, in a slice of any length.
-use Rattle.std.specs.Prelude.{◌≡◌, refl, List, [], ◌∷◌, ◌++◌, ℕ, ◌-◌, leb, replicate}
-use Rattle.rules.specs.Base.{if◌then◌else◌}
+use Rattle.std.specs.Prelude.{if◌then◌else◌, ◌≡◌, refl, List, [], ◌∷◌, ◌++◌, ℕ, ◌-◌, leb, replicate}
 use Rattle.rules.specs.Words.{words_bytes}
 use Rattle.rules.specs.Sheets.{default}
 

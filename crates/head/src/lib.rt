@@ -1,4 +1,6 @@
 // Two heads: the default one, and the Rust's.
+#![tactic(auto)]
+
 ghost use Rattle.std.specs.Prelude.{◌≡◌, length, replicate};
 ghost use Rattle.head.specs.Head.{head_with, default_head, rust_head, head_written, head_returned};
 

@@ -7,7 +7,8 @@ use native.Mathlib.Omega.{arith}
 use native.Mathlib.Numerals.{add-one}
 use Rattle.rules.specs.declared.IndentType.{IndentType}
 use Rattle.rules.specs.declared.IndentType.TheVariants.{Top, Block, FoldedBlock}
-use Rattle.rules.specs.Base.{if◌then◌else◌, when, full}
+use Rattle.rules.specs.Base.{when, full}
+use Rattle.std.specs.Prelude.{if◌then◌else◌}
 use Rattle.rules.specs.Indentation.{Indentation, PreviousTokens, no_indentation, increase_top_level, increase_block_level, decrease_top_level, pop_top, decrease_block_level, pop_block, set_previous_reserved, set_previous_top_level, unfolded}
 use Rattle.indentation.specs.declared.Indentation.{Indentation as Code}
 use Rattle.indentation.specs.Of.{indentation_of, ends_top, Stands}

@@ -15,7 +15,8 @@ use borrow.Author.Tests.{le-leb, lt-leb, ne_eqb, eqb-true, ltb-true, ltb-false, 
 use Rattle.rules.specs.declared.IndentType.{IndentType}
 use Rattle.rules.specs.declared.IndentType.TheVariants.{Top, Block, FoldedBlock}
 use Rattle.rules.specs.declared.SpanInfo.{SpanInfo}
-use Rattle.rules.specs.Base.{if◌then◌else◌, when, full}
+use Rattle.rules.specs.Base.{when, full}
+use Rattle.std.specs.Prelude.{if◌then◌else◌}
 use Rattle.rules.specs.Indentation.{Indentation, PreviousTokens, no_indentation, is_single, asked, mark_reserved, mark_top_level, increase_top_level, increase_block_level, decrease_top_level, pop_top, decrease_block_level, pop_block, set_previous_reserved, set_previous_top_level, last_top_level, last_reserved, previous_reserved, previous_top_level_reserved, unfolded, indent_level, span, no_previous as none_before}
 use Rattle.stacks.specs.Stack.{stack, Kept, within_of}
 use Rattle.stacks.proofs.StackLaws.{length-stack, stack_push, stack-put, stack-pop, stack-popped, kept_push, kept_put, kept-pop, every_set, kept-none, every-same, same_or, left-of, right_of, unless_both, tail_map}

@@ -1,9 +1,9 @@
 -- Wish 3 for its reader: after any list of operations from the empty record, the count that is kept is the recount.
-use Rattle.std.specs.Prelude.{◌≡◌, Bool, ◌&&◌, not, List, [], ◌∷◌, map, ℕ, ◌+◌, ◌-◌}
+use Rattle.std.specs.Prelude.{if◌then◌else◌, ◌≡◌, Bool, ◌&&◌, not, List, [], ◌∷◌, map, ℕ, ◌+◌, ◌-◌}
 use Rattle.rules.specs.declared.IndentType.{IndentType}
 use Rattle.rules.specs.declared.IndentType.TheVariants.{Top, Block, FoldedBlock}
 use Rattle.rules.specs.declared.SpanInfo.{SpanInfo}
-use Rattle.rules.specs.Base.{if◌then◌else◌, when, full}
+use Rattle.rules.specs.Base.{when, full}
 use Rattle.rules.specs.Indentation.{Indentation, no_indentation, increase_top_level, increase_block_level, decrease_top_level, decrease_block_level, set_previous_reserved, set_previous_top_level, unfolded}
 use Rattle.indentation.specs.declared.Indentation.{Indentation as Code}
 use Rattle.indentation.specs.Of.{types_of, indentation_of, ends_top, Clean, Stands}

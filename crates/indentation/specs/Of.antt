@@ -1,10 +1,9 @@
 -- What the code's stacks stand for: words are tokens' numbers.
-use Rattle.std.specs.Prelude.{◌≡◌, Bool, true, false, List, [], ◌∷◌, map, ℕ, zero, suc, ◌+◌, ◌%◌, ◌≤◌, eqb, ltb, get_or}
+use Rattle.std.specs.Prelude.{if◌then◌else◌, ◌≡◌, Bool, true, false, List, [], ◌∷◌, map, ℕ, zero, suc, ◌+◌, ◌%◌, ◌≤◌, eqb, ltb, get_or}
 use Rattle.std.proofs.Math.Option.{Option, none, some}
 use Rattle.rules.specs.declared.IndentType.{IndentType}
 use Rattle.rules.specs.declared.IndentType.TheVariants.{Top, Block, FoldedBlock}
 use Rattle.rules.specs.declared.SpanInfo.{SpanInfo}
-use Rattle.rules.specs.Base.{if◌then◌else◌}
 use Rattle.rules.specs.Indentation.{is_single, Indentation, PreviousTokens, Closed, unfolded}
 use Rattle.stacks.specs.Stack.{stack, Kept}
 use Rattle.indentation.specs.declared.Previous.{Previous}

@@ -1,7 +1,9 @@
 // indentation.rs: the stacks of indent kinds, spans and previous words, by value.
-ghost use Rattle.std.specs.Prelude.{◌≡◌, false, ◌+◌, ◌-◌, ◌≤◌, ◌<◌, eqb};
+#![tactic(auto)]
+
+ghost use Rattle.std.specs.Prelude.{if◌then◌else◌, ◌≡◌, false, ◌+◌, ◌-◌, ◌≤◌, ◌<◌, eqb};
 ghost use Rattle.rules.specs.Indentation.{is_single, no_indentation, indent_level, increase_top_level, increase_block_level, decrease_top_level, decrease_block_level, set_previous_reserved, set_previous_top_level, previous_top_level_reserved, span as span_of};
-ghost use Rattle.rules.specs.Base.{if◌then◌else◌, when, full};
+ghost use Rattle.rules.specs.Base.{when, full};
 ghost use Rattle.indentation.specs.Of.{indentation_of, types_of, no_previous, ends_top, kind_for, word_of, marks_of, top_span, top_of, reserved_after, top_level_after, top_in, last_of, word_in, span_in, Clean, Stands, StandsClosed};
 
 use rules::SpanInfo;
@@ -10,7 +12,7 @@ use stacks::{both, chosen, less, less_if, more_if, within};
 // What is asked of the last top-level word's span, and the last reserved word: its token's number and one more, 0 where there is none.
 // Marks: 0 where there is no top-level word, else 1, one more where its span is single, two more where it has a newline after.
 // Flat numbers: an array of them has no gaps, so it is filled and copied as bytes; the fewer they are, the less is copied.
-#[derive(Drop)]
+#[derive(Clone, Copy)]
 pub struct Previous {
     pub full_span: u32,
     pub word: u16,
@@ -19,7 +21,7 @@ pub struct Previous {
 
 // Kinds: 0 Top, 1 Block, 2 FoldedBlock. Entries above the counts are zero. The level is the count of entries that aren't folded.
 // An operation takes out the arrays that it changes, each as a local of its own, and branches on numbers alone: so no other array is copied.
-#[derive(Drop)]
+#[derive(Clone, Copy)]
 pub struct Indentation {
     pub kinds: [u8; 128],
     pub nkinds: usize,
@@ -38,7 +40,7 @@ pub enum Word {
 }
 
 // A top-level word's span, where there is one.
-#[derive(Drop)]
+#[derive(Clone, Copy)]
 pub enum TopLevel {
     Span(SpanInfo),
     Nothing,

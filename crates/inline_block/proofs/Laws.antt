@@ -8,7 +8,7 @@ use lib.Dec.{ltb}
 use lib.ListN.{length, get_or, set, replicate}
 use lib.Seq.{set-get_or}
 use borrow.Author.Tests.{lt-ltb}
-use Rattle.rules.specs.Base.{if◌then◌else◌}
+use Rattle.std.specs.Prelude.{if◌then◌else◌}
 use Rattle.rules.specs.InlineBlock.{is_active, cur_len, begin_if_possible}
 use Rattle.stacks.specs.Stack.{within_of}
 use Rattle.stacks.proofs.StackLaws.{length-stack, stack_push, stack-pop, stack-popped, kept-none, kept_push, kept-pop}

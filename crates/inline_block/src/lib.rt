@@ -1,4 +1,6 @@
 // inline_block.rs: the open inline blocks by value. What a block holds is read ahead, in another crate.
+#![tactic(auto)]
+
 ghost use Rattle.std.specs.Prelude.{◌≡◌, true, ◌<◌};
 ghost use mathlib.Core.List.{[], tail};
 ghost use Rattle.rules.specs.InlineBlock.{is_active, cur_len, begin_if_possible};
@@ -7,7 +9,7 @@ ghost use Rattle.inline_block.specs.Of.{inline_block_of, Clean, Stands};
 use stacks::{chosen, less, more_if, within};
 
 // The lengths of the open inline blocks, the innermost last; entries above the level are zero.
-#[derive(Drop)]
+#[derive(Clone, Copy)]
 pub struct InlineBlock {
     pub lengths: [u32; 128],
     pub level: usize,

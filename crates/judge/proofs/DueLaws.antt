@@ -15,7 +15,8 @@ use Rattle.rules.specs.declared.TokenKind.{TokenKind}
 use Rattle.rules.specs.declared.TokenKind.TheVariants as kind
 use Rattle.rules.specs.declared.Turn.{Turn}
 use Rattle.rules.specs.declared.Turn.TheVariants as turn
-use Rattle.rules.specs.Base.{if◌then◌else◌, when}
+use Rattle.rules.specs.Base.{when}
+use Rattle.std.specs.Prelude.{if◌then◌else◌}
 use Rattle.rules.specs.Tokens.{Token, is}
 use Rattle.rules.specs.Text.{in_case}
 use Rattle.rules.specs.Words.{body_at}

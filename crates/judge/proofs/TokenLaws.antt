@@ -12,7 +12,8 @@ use Rattle.rules.specs.declared.Counts.{Counts}
 use Rattle.rules.specs.declared.Offence.TheVariants.{At, Nowhere}
 use Rattle.rules.specs.declared.Token.{Token}
 use Rattle.rules.specs.declared.Turn.{Turn}
-use Rattle.rules.specs.Base.{if◌then◌else◌, same}
+use Rattle.rules.specs.Base.{same}
+use Rattle.std.specs.Prelude.{if◌then◌else◌}
 use Rattle.rules.specs.Text.{in_case}
 use Rattle.rules.specs.Words.{token_at, body_at}
 use Rattle.rules.specs.Sheet.{body_part, key_read, token_read, token_of, tokens_from, options_of, params_of, keeps_of, env_of, tokens_of}

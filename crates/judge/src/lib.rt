@@ -1,4 +1,6 @@
 // Wish 13: whether a text, white bytes taken out, is what is due of a sheet, token by token. The text's cursor only moves on.
+#![tactic(auto)]
+
 ghost use Rattle.std.specs.Prelude.{◌≡◌, ◌&&◌, ◌≤◌, ◌<◌, length, drop};
 ghost use Rattle.rules.specs.declared.Case.TheVariants as case;
 ghost use Rattle.rules.specs.declared.Turn.TheVariants as taken;
@@ -37,7 +39,7 @@ pub enum Form {
 }
 
 // What is due of a token: the bytes of a place, in a case; and the placeholders' counter after it.
-#[derive(Drop)]
+#[derive(Clone, Copy)]
 pub struct Due {
     pub place: Place,
     pub casing: Case,

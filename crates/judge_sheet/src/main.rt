@@ -1,16 +1,12 @@
 // The judging program: a sheet in the file that its argument names, a text on standard input; on standard output whether the text is what is due of the sheet.
+#![tactic(auto)]
+
 ghost use Rattle.std.specs.Prelude.{◌<◌};
 
 use foreign::Judged;
-use libc::{STDIN_FILENO, STDOUT_FILENO};
-
-fn say(words: &[u8]) {
-    io::write_all(STDOUT_FILENO, words);
-}
-
-fn write_number(n: u64) {
-    io::print_decimal(STDOUT_FILENO, n);
-}
+use std::io::{self, Read, Write};
+use std::rt::Files;
+use std::{env, fs};
 
 // A word of the sheet, and 0 past its end.
 fn word(sheet: &[u8], at: usize) -> usize
@@ -25,83 +21,70 @@ fn word(sheet: &[u8], at: usize) -> usize
     tokens::word_at(sheet, at) as usize
 }
 
-fn write_part(sheet: &[u8], start: usize, len: usize) {
+fn write_part(rt: &impl Print, sheet: &[u8], start: usize, len: usize) -> io::Result<()> {
     if start <= sheet.len() {
         if len <= sheet.len() - start {
-            say(&sheet[start..start + len]);
+            io::writer(rt).write_all(&sheet[start..start + len])?;
         }
     }
+    Ok(())
 }
 
 // A token's own value.
-fn write_value(sheet: &[u8], i: usize) {
+fn write_value(rt: &impl Print, sheet: &[u8], i: usize) -> io::Result<()> {
     if i < 1024 {
         let at = 48 + 20 * i;
         let base = 48 + 20 * word(sheet, 0) + 16 * word(sheet, 4) + 8 * word(sheet, 8);
-        write_part(sheet, base + word(sheet, at + 4), word(sheet, at + 8));
+        write_part(rt, sheet, base + word(sheet, at + 4), word(sheet, at + 8))?;
     }
+    Ok(())
 }
 
-fn write_no(sheet: &[u8], token: u64) {
+fn write_no(rt: &impl Print, sheet: &[u8], token: u64) -> io::Result<()> {
     let i = token as usize;
     if i == word(sheet, 0) {
-        say(b"no: the text has more than the sheet\n");
-        return;
+        return println!(rt; "no: the text has more than the sheet");
     }
-    say(b"no at token ");
-    write_number(token);
-    say(b": ");
-    write_value(sheet, i);
-    say(b"\n");
+    print!(rt; "no at token {token}: ")?;
+    write_value(rt, sheet, i)?;
+    println!(rt)
 }
 
-fn write_refusal(r: Judged) {
-    say(b"refused ");
-    write_number(r.refusal as u64);
-    say(b" at ");
-    write_number(r.place);
-    say(b"\n");
+fn write_refusal(rt: &impl Print, r: Judged) -> io::Result<()> {
+    println!(rt; "refused {} at {}", r.refusal, r.place)
 }
 
-fn judge(sheet: &[u8], text: &[u8]) {
+fn judge(rt: &impl Print, sheet: &[u8], text: &[u8]) -> io::Result<()> {
     let r = twigmantle::twigmantle_judge(sheet, text);
     if r.refusal != 0 {
-        write_refusal(r);
-        return;
+        return write_refusal(rt, r);
     }
     if r.matches == 1 {
-        say(b"yes\n");
-        return;
+        return println!(rt; "yes");
     }
-    write_no(sheet, r.token);
+    write_no(rt, sheet, r.token)
 }
 
 // The call takes a text of any length; this program one that is shorter than its buffer.
-fn judge_text(sheet: &[u8]) {
-    let mut text = io::large_buffer();
-    let n = io::read_full(STDIN_FILENO, &mut text);
-    if n == 65536 {
-        say(b"the text is too long for this program\n");
-        return;
+fn judge_text(rt: &(impl Input + Print + AllocGlobal), sheet: &[u8]) -> io::Result<()> {
+    let mut text = Vec::new(rt.alloc());
+    rt.reader().take(65536).read_to_end(&mut text)?;
+    if text.len() == 65536 {
+        return println!(rt; "the text is too long for this program");
     }
-    judge(sheet, &text[..n]);
+    judge(rt, sheet, &text)
 }
 
-fn main() {
-    let mut path = io::buffer();
-    let length = os::arg(1, &mut path);
-    if os::errno() != 0 {
-        os::fail(b"sheet");
-        return;
-    }
-    let fd = os::open_read(&path[..length]);
-    if fd < 0 {
-        os::fail(&path[..length]);
-        return;
-    }
+fn main(rt: HostRuntime) -> io::Result<()> {
+    let Some(path) = env::args(&rt)?.nth(1) else {
+        return eprintln!(rt; "sheet: Invalid argument");
+    };
+    let file = match fs::open(&rt, path.as_str()) {
+        Ok(file) => file,
+        Err(error) => return eprintln!(rt; "{path}: {error}"),
+    };
     // Longer than any sound sheet, so that what is not read is refused by its length.
-    let mut sheet = io::large_buffer();
-    let n = io::read_full(fd, &mut sheet);
-    libc::close(fd);
-    judge_text(&sheet[..n]);
+    let mut sheet = Vec::new(rt.alloc());
+    file.take(65536).read_to_end(&mut sheet)?;
+    judge_text(&rt, &sheet)
 }

@@ -9,7 +9,8 @@ use Rattle.rules.specs.declared.Place.{Place}
 use Rattle.rules.specs.declared.Counts.{Counts}
 use Rattle.rules.specs.declared.Case.{Case}
 use Rattle.rules.specs.declared.Case.TheVariants as case
-use Rattle.rules.specs.Base.{if◌then◌else◌, same, any_of}
+use Rattle.rules.specs.Base.{same, any_of}
+use Rattle.std.specs.Prelude.{if◌then◌else◌}
 use Rattle.rules.specs.Words.{place_at, keeps_at, body_at}
 use Rattle.rules.specs.Sheet.{body_part, list_of, keep_of, keeps_of}
 use Rattle.tokens.specs.Placed.{Inside}

@@ -1,9 +1,9 @@
 -- The case of a value: a keep word stays as it is.
-use Rattle.std.specs.Prelude.{List, ℕ}
+use Rattle.std.specs.Prelude.{if◌then◌else◌, List, ℕ}
 use Rattle.rules.specs.declared.Case.{Case}
 use Rattle.rules.specs.declared.Case.TheVariants as case
 use Rattle.rules.specs.declared.Counts.{Counts}
-use Rattle.rules.specs.Base.{if◌then◌else◌, same, any_of}
+use Rattle.rules.specs.Base.{same, any_of}
 use Rattle.rules.specs.Sheet.{keeps_of}
 
 unfoldable pub case_of : List ℕ → Counts → Case → List ℕ → Case

@@ -1,4 +1,6 @@
 // Keep words: values that stay as they are where the others are cased.
+#![tactic(auto)]
+
 ghost use Rattle.std.specs.Prelude.{◌≡◌};
 ghost use Rattle.rules.specs.Base.{same, any_of};
 ghost use Rattle.rules.specs.Words.{body_at};

@@ -2,9 +2,10 @@
 // eight, until a line feed comes: so the largest tells of what stands before the first line feed. Bytes serve for sixteen steps,
 // with 120 for the offset; between them a lane is wider, with 32768. What begins and ends within sixteen bytes has at most 120
 // columns, and is passed over: a line as wide is known.
-ghost use Rattle.std.specs.Prelude.{◌≡◌, ◌+◌, ◌-◌, ◌*◌, ◌%◌, ◌≤◌, ◌<◌, max, ltb, length, get_or};
+#![tactic(auto)]
+
+ghost use Rattle.std.specs.Prelude.{if◌then◌else◌, ◌≡◌, ◌+◌, ◌-◌, ◌*◌, ◌%◌, ◌≤◌, ◌<◌, max, ltb, length, get_or};
 ghost use Rattle.std.specs.Int.Bits.{bit_and};
-ghost use Rattle.rules.specs.Base.{if◌then◌else◌};
 ghost use Rattle.steps.specs.Steps.{Below, Mapped, down};
 ghost use Rattle.lanes.specs.Lanes.{Over, lane_on, Laned, Ready, OnSixteen};
 

@@ -10,7 +10,8 @@ use lib.ListN.{length}
 use borrow.Author.Tests.{ltb-true, ltb-false, le-leb}
 use Rattle.rules.specs.declared.Place.{Place}
 use Rattle.rules.specs.declared.Counts.{Counts}
-use Rattle.rules.specs.Base.{if◌then◌else◌, same, find, nth?, or_else}
+use Rattle.rules.specs.Base.{same, find, nth?, or_else}
+use Rattle.std.specs.Prelude.{if◌then◌else◌}
 use Rattle.rules.specs.Words.{place_at, params_at, body_at}
 use Rattle.rules.specs.Checks.{in_body}
 use Rattle.rules.specs.Sheet.{body_part, list_of, name_of, value_of, param_of, Param as Read, Indexed, Named}

@@ -1,4 +1,6 @@
 // params.rs, in two forms that are lent: the counter behind `&mut`, and the parameter list as a slice of records.
+#![tactic(auto)]
+
 ghost use Rattle.std.specs.Prelude.{◌≡◌, ◌<◌};
 ghost use Rattle.rules.specs.Words.{body_at};
 ghost use Rattle.records.specs.Sheeted.{Sheeted};
@@ -49,7 +51,7 @@ pub fn get_counted(sheet: &[u8], c: Counts, t: Token, index: u32) -> Shown
 // ---- the list
 
 // A name's place and a value's.
-#[derive(Drop)]
+#[derive(Clone, Copy)]
 pub struct Param {
     pub name: Place,
     pub value: Place,

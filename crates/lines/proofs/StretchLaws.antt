@@ -8,7 +8,7 @@ use lib.Dec.{eqb}
 use lib.ListN.{length, take, drop, get_or}
 use lib.Seq.{take-take}
 use borrow.Author.Tests.{eq-eqb}
-use Rattle.rules.specs.Base.{if◌then◌else◌}
+use Rattle.std.specs.Prelude.{if◌then◌else◌}
 use Rattle.rules.specs.Text.{width_from, width}
 use Rattle.rules.specs.Columns.{longest_from}
 use Rattle.ascii.specs.Part.{part, has, before}

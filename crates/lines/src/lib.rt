@@ -1,6 +1,7 @@
 // The lines of a text and its width, counted a stretch at a time.
-ghost use Rattle.std.specs.Prelude.{◌≡◌, false, ◌+◌, ◌*◌, ◌%◌, ◌^◌, ◌≤◌, ◌<◌, eqb, length, take};
-ghost use Rattle.rules.specs.Base.{if◌then◌else◌};
+#![tactic(auto)]
+
+ghost use Rattle.std.specs.Prelude.{if◌then◌else◌, ◌≡◌, false, ◌+◌, ◌*◌, ◌%◌, ◌^◌, ◌≤◌, ◌<◌, eqb, length, take};
 ghost use Rattle.rules.specs.Columns.{longest_from};
 ghost use Rattle.ascii.specs.Part.{part, has};
 ghost use Rattle.columns.specs.Measured.{measure};
@@ -20,7 +21,7 @@ pub struct Size {
 // ---- line feeds and tabs
 
 // `tab` is not 0 where a tab stands.
-#[derive(Drop)]
+#[derive(Clone, Copy)]
 pub struct Marks {
     pub feeds: usize,
     pub tab: u8,

@@ -12,7 +12,7 @@ use lib.Pow.{pow_pos, shr-shr}
 use lib.Seq.{get_or-set_same, get_or-set_other}
 use borrow.Author.Count.{below_more}
 use borrow.Author.Tests.{eqb-true, ltb-true, ltb-false}
-use Rattle.rules.specs.Base.{if◌then◌else◌}
+use Rattle.std.specs.Prelude.{if◌then◌else◌}
 use Rattle.ascii.specs.Part.{part, has}
 use Rattle.ascii.proofs.PartLaws.{part-cons}
 use Rattle.marks.specs.Marks.{bit_at}

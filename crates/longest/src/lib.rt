@@ -1,8 +1,10 @@
 // The longest line in bytes. Where a line of `best` bytes is known, one of at most `best` bytes changes nothing: if a line feed
 // stands among the next best + 1 bytes, all up to it may be passed. Where lines are short a whole stretch is passed at once, else
 // all up to the last such line feed; a line that has none is measured.
-ghost use Rattle.std.specs.Prelude.{◌≡◌, true, ◌+◌, ◌*◌, ◌^◌, ◌≤◌, ◌<◌, min, max, eqb, length, replicate};
-ghost use Rattle.rules.specs.Base.{if◌then◌else◌, same};
+#![tactic(auto)]
+
+ghost use Rattle.std.specs.Prelude.{if◌then◌else◌, ◌≡◌, true, ◌+◌, ◌*◌, ◌^◌, ◌≤◌, ◌<◌, min, max, eqb, length, replicate};
+ghost use Rattle.rules.specs.Base.{same};
 ghost use Rattle.rules.specs.Columns.{longest_from};
 ghost use Rattle.ascii.specs.Part.{part};
 ghost use Rattle.longest.specs.Short.{Passed, Last};

@@ -10,7 +10,7 @@ use lib.Pow.{pow_pos, mod-pow-add}
 use lib.Bits.{bit_and, and_mask}
 use lib.Count as lib-count
 use lib.ListN.{get_or}
-use Rattle.rules.specs.Base.{if◌then◌else◌}
+use Rattle.std.specs.Prelude.{if◌then◌else◌}
 use Rattle.marks.specs.Marks.{bit_at, bit_of, count_of, Counted}
 
 pub count-ext : (p q : ℕ → Bool) (n : ℕ) → ((i : ℕ) → i < n → p i ≡ q i) → count_of p n ≡ count_of q n

@@ -1,6 +1,5 @@
 -- Marks on numbers under 32,768, 32 to a word; and for each word how far the runs go that start in it.
-use Rattle.std.specs.Prelude.{◌≡◌, Bool, ◌||◌, List, ℕ, zero, suc, ◌+◌, ◌*◌, ◌/◌, ◌%◌, ◌^◌, ◌<◌, max, eqb, ltb, length, get_or}
-use Rattle.rules.specs.Base.{if◌then◌else◌}
+use Rattle.std.specs.Prelude.{if◌then◌else◌, ◌≡◌, Bool, ◌||◌, List, ℕ, zero, suc, ◌+◌, ◌*◌, ◌/◌, ◌%◌, ◌^◌, ◌<◌, max, eqb, ltb, length, get_or}
 
 -- bit i of a word
 unfoldable pub bit_at : ℕ → ℕ → Bool

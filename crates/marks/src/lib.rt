@@ -1,4 +1,6 @@
 // Marks on numbers under 32,768, a bit for each: marking a run takes the same time however long it is, and so does asking how many marks stand before a number.
+#![tactic(auto)]
+
 ghost use Rattle.std.specs.Prelude.{◌≡◌, ◌&&◌, ◌||◌, ℕ, ◌+◌, ◌-◌, ◌*◌, ◌^◌, ◌≤◌, ◌<◌, max, leb, ltb, length};
 ghost use Rattle.marks.specs.Marks.{bit_at, bit_of, marked, count_of, Long, Counted};
 

@@ -10,7 +10,8 @@ use lib.Dec.{leb}
 use lib.ListN.{length, drop, get_or, take-append-drop, drop_of_length-le}
 use lib.Seq.{drop-cons, drop-drop}
 use borrow.Author.Tests.{leb-true, leb-false, le-leb, lt-leb}
-use Rattle.rules.specs.Base.{if◌then◌else◌, any_of}
+use Rattle.rules.specs.Base.{any_of}
+use Rattle.std.specs.Prelude.{if◌then◌else◌}
 use Rattle.ascii.specs.Part.{part}
 use Rattle.ascii.proofs.PartLaws.{part-suc, length_part}
 use Rattle.foreign.proofs.Walk.{any_append}

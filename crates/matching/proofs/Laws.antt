@@ -8,7 +8,8 @@ use native.Mathlib.Omega.{arith}
 use lib.Dec.{eqb, leb}
 use lib.ListN.{length, drop, length-drop}
 use lib.Seq.{drop-cons}
-use Rattle.rules.specs.Base.{if◌then◌else◌, find}
+use Rattle.rules.specs.Base.{find}
+use Rattle.std.specs.Prelude.{if◌then◌else◌}
 use Rattle.rules.specs.Due.{white, strip}
 use Rattle.foreign.specs.Foreign.{begins}
 use Rattle.matching.specs.declared.Reached.{Reached}

@@ -1,7 +1,6 @@
 -- How far a text goes on with some bytes, its white bytes left out.
-use Rattle.std.specs.Prelude.{◌≡◌, true, false, List, [], ◌∷◌, ◌++◌, ℕ, suc, ◌≤◌, ◌<◌, eqb, leb, length, drop, get_or}
+use Rattle.std.specs.Prelude.{if◌then◌else◌, ◌≡◌, true, false, List, [], ◌∷◌, ◌++◌, ℕ, suc, ◌≤◌, ◌<◌, eqb, leb, length, drop, get_or}
 use Rattle.std.proofs.Math.Option.{Option, none, some}
-use Rattle.rules.specs.Base.{if◌then◌else◌}
 use Rattle.rules.specs.Due.{white, strip}
 use Rattle.matching.specs.declared.Reached.{Reached}
 

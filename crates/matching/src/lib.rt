@@ -1,4 +1,6 @@
 // Wish 13: how far a text goes on with the bytes of a place, white bytes left out on both sides. Nothing is read twice.
+#![tactic(auto)]
+
 ghost use Rattle.std.specs.Prelude.{◌≡◌, [], ◌+◌, ◌≤◌, leb, length, drop};
 ghost use Rattle.rules.specs.Base.{any_of, same};
 ghost use Rattle.rules.specs.Text.{in_case};

@@ -1,4 +1,6 @@
 // Wish 10: a damaged sheet mended where it lies, with a report of each word and byte that was changed.
+#![tactic(auto)]
+
 ghost use Rattle.std.specs.Prelude.{◌≡◌, ◌+◌, ◌*◌, ◌≤◌, ◌<◌, ◌^◌, length, replicate};
 ghost use Rattle.rules.specs.declared.Offence.TheVariants.{Nowhere};
 ghost use Rattle.rules.specs.Words.{body_at};

@@ -10,7 +10,7 @@ use lib.ListN.{length, take, drop, get_or, take-append-drop, drop_of_length-le}
 use lib.Seq.{take_at, take_all, take-add, drop-drop, drop-cons, drop-append-add, length-take-le}
 use borrow.Author.Tests.{lt-ltb, le-ltb, eqb-true}
 use Rattle.rules.specs.declared.Counts.{Counts}
-use Rattle.rules.specs.Base.{if◌then◌else◌}
+use Rattle.std.specs.Prelude.{if◌then◌else◌}
 use Rattle.rules.specs.Words.{word_at, word_bytes, body_at}
 use Rattle.rules.specs.Compacted.{word_count}
 use Rattle.word_bytes.proofs.WordLaws.{Small, bytes_back}

@@ -7,7 +7,7 @@ use native.Mathlib.Omega.{arith}
 use lib.Dec.{eqb, leb, ltb}
 use borrow.Author.Tests.{ltb-true}
 use Rattle.rules.specs.declared.Counts.{Counts}
-use Rattle.rules.specs.Base.{if◌then◌else◌}
+use Rattle.std.specs.Prelude.{if◌then◌else◌}
 use Rattle.rules.specs.Words.{word_at, place_at, class_bits, params_at, keeps_at}
 use Rattle.rules.specs.Checks.{mode_fits, packed_fits, in_body}
 use Rattle.word_bytes.proofs.WordLaws.{Small, word_small}

@@ -7,7 +7,7 @@ use native.Mathlib.Nat.{add-zero}
 use native.Mathlib.Omega.{arith}
 use lib.Dec.{eqb, leb}
 use borrow.Author.Tests.{le-leb, lt-ltb, ne_eqb}
-use Rattle.rules.specs.Base.{if◌then◌else◌}
+use Rattle.std.specs.Prelude.{if◌then◌else◌}
 use Rattle.rules.specs.Words.{word_at, place_at}
 use Rattle.rules.specs.Checks.{mode_fits, packed_fits, key_afits, key_bfits, name_fits, in_body, key_in_body}
 use Rattle.mended.specs.Mended.{mended_mode, or_default, plain_word, mended_packed, place_word, key_word, mended_param}

@@ -10,7 +10,7 @@ use lib.ListN.{get_or}
 use borrow.Author.Tests.{eqb-true, eqb-false, ltb-true, ltb-false, le-leb, lt-ltb, eq-eqb, ne_eqb}
 use Rattle.rules.specs.declared.Counts.{Counts}
 use Rattle.rules.specs.declared.Place.{Place}
-use Rattle.rules.specs.Base.{if◌then◌else◌}
+use Rattle.std.specs.Prelude.{if◌then◌else◌}
 use Rattle.rules.specs.Words.{word_at, place_at, class_bits, kind_bits, upper_bits, key_of, token_from, counts_of, tokens_at, params_at, keeps_at, body_at}
 use Rattle.rules.specs.Checks.{mode_fits}
 use Rattle.rules.specs.Compacted.{word_count}

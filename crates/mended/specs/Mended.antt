@@ -1,10 +1,9 @@
 -- Wish 10: what each word and byte of a damaged sheet becomes, and the report.
-use Rattle.std.specs.Prelude.{◌≡◌, Bool, true, false, List, [], ◌∷◌, ◌++◌, ℕ, zero, suc, ◌+◌, ◌-◌, ◌*◌, ◌%◌, eqb, leb, ltb, length, take, drop, replicate, get_or}
+use Rattle.std.specs.Prelude.{if◌then◌else◌, ◌≡◌, Bool, true, false, List, [], ◌∷◌, ◌++◌, ℕ, zero, suc, ◌+◌, ◌-◌, ◌*◌, ◌%◌, eqb, leb, ltb, length, take, drop, replicate, get_or}
 use Rattle.rules.specs.declared.Counts.{Counts}
 use Rattle.rules.specs.declared.Offence.{Offence}
 use Rattle.rules.specs.declared.Offence.TheVariants.{At, Nowhere}
 use Rattle.rules.specs.declared.Outcome.{Outcome}
-use Rattle.rules.specs.Base.{if◌then◌else◌}
 use Rattle.rules.specs.Words.{word_at, word_bytes, place_at, class_bits, packed_of, counts_of, params_at, keeps_at, body_at}
 use Rattle.rules.specs.Checks.{sizes, mode_fits, packed_fits, in_body}
 use Rattle.rules.specs.Compacted.{word_count}

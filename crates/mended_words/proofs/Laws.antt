@@ -8,7 +8,7 @@ use native.Mathlib.Omega.{arith}
 use borrow.Author.Tests.{lt-ltb, le-ltb, le-leb, lt-leb, eq-eqb, ne_eqb}
 use Rattle.rules.specs.declared.Counts.{Counts}
 use Rattle.rules.specs.declared.Place.{Place}
-use Rattle.rules.specs.Base.{if◌then◌else◌}
+use Rattle.std.specs.Prelude.{if◌then◌else◌}
 use Rattle.rules.specs.Words.{word_at, place_at, class_bits, packed_of, params_at, keeps_at}
 use Rattle.rules.specs.Checks.{mode_fits, packed_fits, in_body}
 use Rattle.mended.specs.Mended.{mended_mode, or_default, mended_head, mended_packed, place_word, key_word, mended_token, mended_param, mended_word, mended_byte}

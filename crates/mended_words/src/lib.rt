@@ -1,6 +1,7 @@
 // Wish 10: what each word and each body byte of a damaged sheet becomes.
-ghost use Rattle.std.specs.Prelude.{◌≡◌, ◌+◌, ◌%◌, ◌≤◌, ◌<◌, length};
-ghost use Rattle.rules.specs.Base.{if◌then◌else◌};
+#![tactic(auto)]
+
+ghost use Rattle.std.specs.Prelude.{if◌then◌else◌, ◌≡◌, ◌+◌, ◌%◌, ◌≤◌, ◌<◌, length};
 ghost use Rattle.rules.specs.Words.{word_at, body_at};
 ghost use Rattle.rules.specs.Checks.{in_body};
 ghost use Rattle.checks.specs.Sound.{Sized};

@@ -1,5 +1,7 @@
 // The columns of sixteen parts of a text, sixteen bytes on, where no line has 120 columns: then a byte serves for a lane all along,
 // with 128 for the offset above which it stands until a line feed comes.
+#![tactic(auto)]
+
 ghost use Rattle.std.specs.Prelude.{◌≡◌, ◌+◌, ◌*◌, ◌≤◌, ◌<◌, length, get_or};
 ghost use Rattle.steps.specs.Steps.{Below, down};
 ghost use Rattle.narrow.specs.Narrow.{lane_on, Laned, NarrowOn};

@@ -1,4 +1,6 @@
 // What is amiss in one record of a sheet, by checks 2, 3 and 4.
+#![tactic(auto)]
+
 ghost use Rattle.std.specs.Prelude.{◌≡◌, ◌+◌, ◌≤◌, ◌<◌, leb, length};
 ghost use Rattle.rules.specs.Checks.{demanded, mode_fits, head_words, packed_fits, key_afits, key_bfits, token_words, name_fits, param_words, in_body, key_in_body, token_places, param_places, keep_places, body_byte};
 

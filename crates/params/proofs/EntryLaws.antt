@@ -18,7 +18,8 @@ use Rattle.rules.specs.declared.Index.{Index}
 use Rattle.rules.specs.declared.Index.TheVariants as index
 use Rattle.rules.specs.declared.Token.{Token}
 use Rattle.rules.specs.declared.Counts.{Counts}
-use Rattle.rules.specs.Base.{if◌then◌else◌, same}
+use Rattle.rules.specs.Base.{same}
+use Rattle.std.specs.Prelude.{if◌then◌else◌}
 use Rattle.rules.specs.Tokens.{from_one}
 use Rattle.rules.specs.Words.{word_at, place_at, params_at, body_at}
 use Rattle.rules.specs.Sheet.{body_part, name_of}

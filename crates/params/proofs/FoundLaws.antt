@@ -13,7 +13,8 @@ use Rattle.rules.specs.declared.PlaceholderKind.TheVariants as key
 use Rattle.rules.specs.declared.Index.{Index}
 use Rattle.rules.specs.declared.Index.TheVariants as index
 use Rattle.rules.specs.declared.Counts.{Counts}
-use Rattle.rules.specs.Base.{if◌then◌else◌, same, find, nth?}
+use Rattle.rules.specs.Base.{same, find, nth?}
+use Rattle.std.specs.Prelude.{if◌then◌else◌}
 use Rattle.rules.specs.Tokens.{named, from_one}
 use Rattle.rules.specs.Words.{word_at, body_at}
 use Rattle.rules.specs.Sheet.{body_part, list_of, key_read, Param, None, Indexed, Named, value_of, param_of, params_of}

@@ -13,7 +13,7 @@ use Rattle.rules.specs.declared.OneIndexed.{OneIndexed}
 use Rattle.rules.specs.declared.Index.{Index}
 use Rattle.rules.specs.declared.Token.{Token}
 use Rattle.rules.specs.declared.Counts.{Counts}
-use Rattle.rules.specs.Base.{if◌then◌else◌}
+use Rattle.std.specs.Prelude.{if◌then◌else◌}
 use Rattle.rules.specs.Tokens.{Key, named, from_one}
 use Rattle.rules.specs.Words.{word_at, body_at}
 use Rattle.rules.specs.Sheet.{body_part, list_of, key_read, Param, QueryParams, None, Indexed, Named, param_of, params_of}

@@ -7,7 +7,8 @@ use Prim.Native.Nat.{ℕ, ◌+◌, ◌≤◌, ◌<◌}
 use native.Mathlib.Omega.{arith}
 use Rattle.rules.specs.declared.Token.{Token}
 use Rattle.rules.specs.declared.Counts.{Counts}
-use Rattle.rules.specs.Base.{if◌then◌else◌, or_else}
+use Rattle.rules.specs.Base.{or_else}
+use Rattle.std.specs.Prelude.{if◌then◌else◌}
 use Rattle.rules.specs.Words.{token_at, body_at}
 use Rattle.rules.specs.Sheet.{body_part, key_read, value_of, params_of}
 use Rattle.rules.specs.Params.{source, get, advances}

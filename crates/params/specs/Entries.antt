@@ -1,5 +1,5 @@
 -- Which entry of the parameter list a placeholder shows, by its number, and where what is shown stands.
-use Rattle.std.specs.Prelude.{◌≡◌, Bool, true, false, List, [], ℕ, zero, suc, ◌+◌, ◌*◌, eqb, ltb}
+use Rattle.std.specs.Prelude.{if◌then◌else◌, ◌≡◌, Bool, true, false, List, [], ℕ, zero, suc, ◌+◌, ◌*◌, eqb, ltb}
 use Rattle.rules.specs.declared.Place.{Place}
 use Rattle.rules.specs.declared.PlaceholderKind.{PlaceholderKind}
 use Rattle.rules.specs.declared.PlaceholderKind.TheVariants as key
@@ -7,7 +7,7 @@ use Rattle.rules.specs.declared.Index.{Index}
 use Rattle.rules.specs.declared.Index.TheVariants as index
 use Rattle.rules.specs.declared.Token.{Token}
 use Rattle.rules.specs.declared.Counts.{Counts}
-use Rattle.rules.specs.Base.{if◌then◌else◌, same}
+use Rattle.rules.specs.Base.{same}
 use Rattle.rules.specs.Tokens.{from_one}
 use Rattle.rules.specs.Words.{word_at, place_at, params_at, body_at}
 use Rattle.rules.specs.Sheet.{body_part, key_read, name_of, params_of}

@@ -1,4 +1,6 @@
 // params.rs: what a placeholder shows, with the counter by value.
+#![tactic(auto)]
+
 ghost use Rattle.std.specs.Prelude.{◌≡◌, ◌≤◌, ◌<◌, length};
 ghost use Rattle.rules.specs.declared.Counts.{Counts};
 ghost use Rattle.rules.specs.Params.{is_refused, offends as offends_by};

@@ -1,6 +1,5 @@
 -- What is told of a part of a text by itself.
-use Rattle.std.specs.Prelude.{◌≡◌, List, ℕ, ◌+◌, ◌*◌, ◌<◌, max, ltb, get_or}
-use Rattle.rules.specs.Base.{if◌then◌else◌}
+use Rattle.std.specs.Prelude.{if◌then◌else◌, ◌≡◌, List, ℕ, ◌+◌, ◌*◌, ◌<◌, max, ltb, get_or}
 use Rattle.rules.specs.Text.{line_feeds}
 use Rattle.ascii.specs.Part.{part}
 use Rattle.columns.specs.declared.Measure.{Measure}

@@ -1,4 +1,6 @@
 // The line feeds and columns of a text in sixteen parts side by side: each part by itself first, then one after the other.
+#![tactic(auto)]
+
 ghost use Rattle.std.specs.Prelude.{◌≡◌, ◌+◌, ◌*◌, ◌%◌, ◌^◌, ◌≤◌, ◌<◌, ℕ, length, get_or};
 ghost use Rattle.ascii.specs.Part.{part, before};
 ghost use Rattle.columns.specs.Measured.{count, measure};

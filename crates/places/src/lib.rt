@@ -1,4 +1,6 @@
 // Places of the bodies, by their bytes.
+#![tactic(auto)]
+
 ghost use Rattle.std.specs.Prelude.{◌≡◌};
 ghost use Rattle.rules.specs.Base.{same};
 ghost use Rattle.rules.specs.Sheet.{body_part};

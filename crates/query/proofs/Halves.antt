@@ -9,7 +9,8 @@ use lib.ListN.{length}
 use Rattle.rules.specs.declared.SpanInfo.{SpanInfo}
 use Rattle.rules.specs.declared.BlockInfo.{BlockInfo}
 use Rattle.rules.specs.declared.TokenKind.TheVariants as kind
-use Rattle.rules.specs.Base.{if◌then◌else◌, ◌▹◌, holds, is_some, choose, when, full}
+use Rattle.rules.specs.Base.{◌▹◌, holds, is_some, choose, when, full}
+use Rattle.std.specs.Prelude.{if◌then◌else◌}
 use Rattle.rules.specs.Bytes.{bytes}
 use Rattle.rules.specs.Tokens.{Here}
 use Rattle.rules.specs.Sheet.{Env}

@@ -1,6 +1,8 @@
 // What the handlers of formatter.rs do to their `query`: comments, values and signs, and the steps that all share; reserved words and brackets stand on this.
 // The stacks are another crate's: a handler's levels and tests come in as plain values.
 // One rule is one function, and a test in a rule is an early return: branches that meet again would have to be proved together.
+#![tactic(auto)]
+
 ghost use Rattle.std.specs.Prelude.{◌+◌, ◌≤◌, ◌<◌, length};
 ghost use Rattle.rules.specs.Text.{cut_blanks, append, refuse as refused_with};
 ghost use Rattle.ascii.specs.Part.{part};

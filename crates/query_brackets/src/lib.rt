@@ -1,4 +1,6 @@
 // What the handlers of brackets in formatter.rs do to their `query`, after the pattern of the crate `query`.
+#![tactic(auto)]
+
 ghost use Rattle.std.specs.Prelude.{◌+◌, ◌≤◌, length};
 ghost use Rattle.rules.specs.Text.{in_case};
 ghost use Rattle.ascii.specs.Part.{part};
@@ -13,7 +15,7 @@ use text::{Text, append_byte, one_blank, trim_all_spaces_end, trim_spaces_end};
 use words::append_cased;
 
 // What an opening bracket does to the text: refusal 6, the blanks before it, and what follows it.
-#[derive(Drop)]
+#[derive(Clone, Copy)]
 pub struct Opening {
     pub six: bool,
     pub cuts: bool,

@@ -1,4 +1,6 @@
 // What the handlers of reserved words in formatter.rs do to their `query`, after the pattern of the crate `query`.
+#![tactic(auto)]
+
 ghost use Rattle.std.specs.Prelude.{◌+◌, ◌≤◌, length};
 ghost use Rattle.rules.specs.Text.{in_case, equalize_whitespace};
 ghost use Rattle.ascii.specs.Part.{part};

@@ -1,4 +1,6 @@
 // The sheet's counts, options, parameter records and keep records.
+#![tactic(auto)]
+
 ghost use Rattle.std.specs.Prelude.{◌≡◌, ◌+◌, ◌*◌, ◌≤◌, length};
 ghost use Rattle.rules.specs.Words.{place_at, counts_of, params_at, keeps_at, body_at};
 ghost use Rattle.rules.specs.Sheet.{indent_from, case_from, inline_from, limit_from, options_of};

@@ -1,8 +1,11 @@
 // Replays the fixed list of the Rust's answers: each sheet laid out again, each number and byte compared.
-ghost use Rattle.std.specs.Prelude.{◌+◌, ◌≤◌, length};
+#![tactic(auto)]
 
-use libc::STDOUT_FILENO;
+ghost use Rattle.std.specs.Prelude.{◌+◌, ◌≤◌, length, IfOk};
+ghost use Rattle.std.specs.Io.{ReadsAtMost};
+
 use rules::Report;
+use std::{fs, io};
 
 // One entry's words: the sheet's length, the buffer's, and the report.
 #[derive(Drop)]
@@ -24,11 +27,26 @@ fn word(head: &[u8], at: usize) -> u32
     tokens::word_at(head, at)
 }
 
-fn read_entry(fd: i32) -> Read {
+// Reads until buf is full or the input ends, and returns how many bytes it put at the start of buf.
+fn read_full<R: io::Read>(from: &mut R, buf: &mut [u8]) -> io::Result<usize>
+    ensures { ReadsAtMost result buf.new }
+{
+    let mut done = 0;
+    while done < buf.len() {
+        let n = from.read(&mut buf[done..])?;
+        if n == 0 {
+            break;
+        }
+        done += n;
+    }
+    Ok(done)
+}
+
+fn read_entry<R: io::Read>(from: &mut R) -> io::Result<Read> {
     let mut head = [0u8; 28];
-    let n = io::read_full(fd, &mut head);
+    let n = read_full(from, &mut head)?;
     if n < 28 {
-        return Read::End;
+        return Ok(Read::End);
     }
     let wanted = Report {
         refusal: word(&head, 8),
@@ -37,11 +55,11 @@ fn read_entry(fd: i32) -> Read {
         lines: word(&head, 20) as u64,
         width: word(&head, 24) as u64,
     };
-    Read::One(Entry {
+    Ok(Read::One(Entry {
         sheet: word(&head, 0) as usize,
         room: word(&head, 4) as usize,
         wanted,
-    })
+    }))
 }
 
 fn same_report(a: Report, b: Report) -> bool {
@@ -93,10 +111,11 @@ fn judge(sheet: &[u8], text: &mut [u8], wanted: Report, bytes: &[u8]) -> u64
     if same_text(text, bytes) { 1 } else { 0 }
 }
 
-fn read_part(fd: i32, buf: &mut [u8], n: usize) {
+fn read_part<R: io::Read>(from: &mut R, buf: &mut [u8], n: usize) -> io::Result<()> {
     if n <= buf.len() {
-        io::read_full(fd, &mut buf[..n]);
+        read_full(from, &mut buf[..n])?;
     }
+    Ok(())
 }
 
 fn judge_parts(sheet: &[u8], text: &mut [u8], bytes: &[u8], e: Entry) -> u64
@@ -118,61 +137,54 @@ fn judge_parts(sheet: &[u8], text: &mut [u8], bytes: &[u8], e: Entry) -> u64
     judge(&sheet[..n], &mut text[..room], wanted, &bytes[..m])
 }
 
-fn replay_entry(fd: i32, e: Entry) -> u64
-    ensures { result ≤ 1 }
+fn replay_entry<R: io::Read>(from: &mut R, e: Entry) -> io::Result<u64>
+    ensures { IfOk result (λ n. n ≤ 1) }
 {
-    let mut sheet = io::large_buffer();
-    let mut bytes = io::large_buffer();
+    let mut sheet = [0; 65536];
+    let mut bytes = [0; 65536];
     // Not zero, so that what the call leaves untouched shows.
     let mut text = [7u8; 65536];
     let wanted = e.wanted;
     let n = e.sheet;
     let m = wanted.length as usize;
-    read_part(fd, &mut sheet, n);
-    read_part(fd, &mut bytes, m);
-    judge_parts(&sheet, &mut text, &bytes, e)
+    read_part(from, &mut sheet, n)?;
+    read_part(from, &mut bytes, m)?;
+    Ok(judge_parts(&sheet, &mut text, &bytes, e))
 }
 
 // 1 as it should be, 0 not, 2 at the end of the list.
-fn replay_one(fd: i32) -> u64
-    ensures { result ≤ 2 }
+fn replay_one<R: io::Read>(from: &mut R) -> io::Result<u64>
+    ensures { IfOk result (λ n. n ≤ 2) }
 {
-    let read = read_entry(fd);
+    let read = read_entry(from)?;
     match read {
-        Read::One(e) => replay_entry(fd, e),
-        Read::End => 2,
+        Read::One(e) => replay_entry(from, e),
+        Read::End => Ok(2),
     }
 }
 
-fn print(same: u64, all: u64) {
-    io::print_decimal(STDOUT_FILENO, same);
-    io::write_all(STDOUT_FILENO, b" of ");
-    io::print_decimal(STDOUT_FILENO, all);
-    io::write_all(STDOUT_FILENO, b" sheets as the list has them\n");
+fn print(rt: &impl Print, same: u64, all: u64) -> io::Result<()> {
+    println!(rt; "{same} of {all} sheets as the list has them")
 }
 
-fn replay_all(fd: i32) {
+fn replay_all<R: io::Read>(rt: &impl Print, from: &mut R) -> io::Result<()> {
     let mut same: u64 = 0;
     let mut all: u64 = 0;
     while all < 1000000 {
-        let o = replay_one(fd);
+        let o = replay_one(from)?;
         if o == 2 {
-            print(same, all);
-            return;
+            return print(rt, same, all);
         }
         same += o;
         all += 1;
     }
-    print(same, all);
+    print(rt, same, all)
 }
 
-fn main() {
-    let path = b"answers";
-    let fd = os::open_read(path);
-    if fd < 0 {
-        os::fail(path);
-        return;
+fn main(rt: HostRuntime) -> io::Result<()> {
+    let path = "answers";
+    match fs::open(&rt, path) {
+        Ok(mut file) => replay_all(&rt, &mut file),
+        Err(error) => eprintln!(rt; "{path}: {error}"),
     }
-    replay_all(fd);
-    libc::close(fd);
 }

@@ -1,4 +1,6 @@
 // The end of a layout: the text is trimmed at both ends, and its lines and width are counted.
+#![tactic(auto)]
+
 ghost use Rattle.std.specs.Prelude.{◌≡◌, ◌+◌, ◌^◌, ◌≤◌, ◌<◌, length, take, drop};
 ghost use Rattle.rules.specs.Text.{is_white, trim_start, trimmed, change, bytes_in};
 ghost use Rattle.ascii.specs.Part.{part};

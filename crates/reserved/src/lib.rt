@@ -1,4 +1,6 @@
 // The handlers of reserved words within a level, in formatter.rs's order; and what they share with the words that start one.
+#![tactic(auto)]
+
 ghost use Rattle.std.specs.Prelude.{◌≡◌, not, ◌&&◌, ◌||◌, ◌<◌};
 ghost use Rattle.rules.specs.Formatter.{over_limit, format_newline_reserved_word, format_reserved};
 ghost use Rattle.indentation.specs.Of.{span_in, indentation_of, Clean};

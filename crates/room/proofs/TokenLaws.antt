@@ -17,7 +17,8 @@ use Rattle.rules.specs.declared.Turn.{Turn}
 use Rattle.rules.specs.declared.Turn.TheVariants as turn
 use Rattle.rules.specs.declared.FormatOptions.{FormatOptions}
 use Rattle.rules.specs.contracts.TokenKind as kinds
-use Rattle.rules.specs.Base.{if◌then◌else◌, when}
+use Rattle.rules.specs.Base.{when}
+use Rattle.std.specs.Prelude.{if◌then◌else◌}
 use Rattle.rules.specs.Tokens.{is, kind_no}
 use Rattle.rules.specs.Words.{body_at}
 use Rattle.rules.specs.Sheet.{body_part, key_read, params_of}

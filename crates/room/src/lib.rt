@@ -1,9 +1,11 @@
 // Wish 9: the sum of what each token may add to the text. A buffer that long is always enough.
-ghost use Rattle.std.specs.Prelude.{◌≡◌, [], ◌∷◌, ◌+◌, ◌*◌, ◌≤◌, ◌<◌, eqb, length};
+#![tactic(auto)]
+
+ghost use Rattle.std.specs.Prelude.{if◌then◌else◌, ◌≡◌, [], ◌∷◌, ◌+◌, ◌*◌, ◌≤◌, ◌<◌, eqb, length};
 ghost use Rattle.rules.specs.declared.TokenKind.TheVariants.{Whitespace};
 ghost use Rattle.rules.specs.declared.Turn.TheVariants as taken;
 ghost use Rattle.rules.specs.declared.Checked.TheVariants as found;
-ghost use Rattle.rules.specs.Base.{if◌then◌else◌, same};
+ghost use Rattle.rules.specs.Base.{same};
 ghost use Rattle.rules.specs.Tokens.{is};
 ghost use Rattle.rules.specs.Text.{line_feeds};
 ghost use Rattle.rules.specs.Words.{body_at};

@@ -8,7 +8,8 @@ use native.Mathlib.Omega.{arith}
 use lib.Dec.{eqb}
 use lib.ListN.{length, get_or, replicate}
 use borrow.Author.Tests.{ne_eqb}
-use Rattle.rules.specs.Base.{if◌then◌else◌, ◌▹◌, when}
+use Rattle.rules.specs.Base.{◌▹◌, when}
+use Rattle.std.specs.Prelude.{if◌then◌else◌}
 use Rattle.rules.specs.Rows.{Row, between, clip, entry_word, row_words, rows_words}
 use Rattle.rows.specs.Listing.{entry_of, row_of, row_at, rows_in, listing, count_after, Words}
 use Rattle.rows.proofs.ReadLaws.{length-rows, length-in, length-map, token-in, entry_in, start-in, len-in}

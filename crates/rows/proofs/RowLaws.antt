@@ -9,7 +9,8 @@ use lib.Dec.{eqb, leb}
 use lib.ListN.{length, get_or, set, replicate, length-append, length-set}
 use lib.Seq.{set_at}
 use borrow.Author.Tests.{eqb-true}
-use Rattle.rules.specs.Base.{if◌then◌else◌, ◌▹◌, when}
+use Rattle.rules.specs.Base.{◌▹◌, when}
+use Rattle.std.specs.Prelude.{if◌then◌else◌}
 use Rattle.rules.specs.Rows.{Row, between, clip, shift, entry_word, row_words, rows_words}
 use Rattle.rows.specs.declared.Span.{Span}
 use Rattle.rows.specs.Listing.{start_at, len_at, with_span, entry_of, row_of, row_at, rows_in, listing, count_after, InOrder, Words, Listed}

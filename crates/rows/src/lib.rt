@@ -1,4 +1,6 @@
 // Wish 2: the rows of the placeholders that were laid out, in a lent list of words: five for each row, and zero after them.
+#![tactic(auto)]
+
 ghost use Rattle.std.specs.Prelude.{◌≡◌, true, map, ◌∷◌, ◌+◌, ◌-◌, ◌*◌, ◌≤◌, ◌<◌, ◌^◌, ◌/◌, ◌%◌, min, leb, length, replicate};
 ghost use Rattle.rules.specs.Base.{◌▹◌, when};
 ghost use Rattle.rules.specs.Rows.{clip as clip_to, shift};
@@ -7,7 +9,7 @@ ghost use Rattle.rows.specs.Listing.{start_at, len_at, with_span, row_of, rows_i
 use tokens::to_usize;
 
 // The bytes before a row, and how many bytes it has.
-#[derive(Drop)]
+#[derive(Clone, Copy)]
 pub struct Span {
     pub start: usize,
     pub len: usize,

@@ -7,7 +7,8 @@ use lib.Dec.{eqb, leb}
 use Rattle.rules.specs.declared.Limit.{Limit}
 use Rattle.rules.specs.declared.Limit.TheVariants as limit
 use Rattle.rules.specs.declared.SpanInfo.{SpanInfo}
-use Rattle.rules.specs.Base.{if◌then◌else◌, when}
+use Rattle.rules.specs.Base.{when}
+use Rattle.std.specs.Prelude.{if◌then◌else◌}
 use Rattle.rules.specs.Indentation.{is_single, asked, increase_top_level as increase_top}
 use Rattle.rules.specs.State.{on_indentation, increase_top_level}
 use Rattle.rules.specs.Formatter.{newline_before, indent_inlined, folds_in, span_within}

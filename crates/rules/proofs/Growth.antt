@@ -11,7 +11,8 @@ use Rattle.rules.specs.declared.Inline.{Inline}
 use Rattle.rules.specs.declared.Inline.TheVariants as inline
 use Rattle.rules.specs.declared.IndentType.TheVariants.{Top, Block, FoldedBlock}
 use Rattle.rules.specs.declared.SpanInfo.{SpanInfo}
-use Rattle.rules.specs.Base.{if◌then◌else◌, choose, when, full}
+use Rattle.rules.specs.Base.{choose, when, full}
+use Rattle.std.specs.Prelude.{if◌then◌else◌}
 use Rattle.rules.specs.Sheet.{Env}
 use Rattle.rules.specs.Text.{is_blank, is_white, trim_end, last_or, Text, fits, refused, append, line_feed, refuse, cut, hold, mark, bytes_in, is_on, new_line, closing_line}
 use Rattle.rules.specs.Indentation.{Indentation, indent_level, increase_block_level, decrease_top_level, decrease_block_level, set_previous_reserved, set_previous_top_level}

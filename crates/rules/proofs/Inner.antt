@@ -15,7 +15,8 @@ use Rattle.rules.specs.declared.IndentType.TheVariants.{Top, Block, FoldedBlock}
 use Rattle.rules.specs.declared.SpanInfo.{SpanInfo}
 use Rattle.rules.specs.declared.BlockInfo.{BlockInfo}
 use Rattle.rules.specs.Bytes.{bytes}
-use Rattle.rules.specs.Base.{if◌then◌else◌, same, choose, when, full}
+use Rattle.rules.specs.Base.{same, choose, when, full}
+use Rattle.std.specs.Prelude.{if◌then◌else◌}
 use Rattle.rules.specs.Tokens.{Token, Here, is}
 use Rattle.rules.specs.Sheet.{Env}
 use Rattle.rules.specs.Text.{Text, fits, refused, refuse}

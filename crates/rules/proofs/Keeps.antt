@@ -8,7 +8,8 @@ use native.Mathlib.Omega.{arith}
 use lib.ListN.{length}
 use Rattle.rules.specs.declared.TokenKind.{TokenKind}
 use Rattle.rules.specs.declared.TokenKind.TheVariants as kind
-use Rattle.rules.specs.Base.{if◌then◌else◌, when}
+use Rattle.rules.specs.Base.{when}
+use Rattle.std.specs.Prelude.{if◌then◌else◌}
 use Rattle.rules.specs.Tokens.{Key, absent, named, zero_indexed, one_indexed, Token, Here}
 use Rattle.rules.specs.Sheet.{Env, QueryParams, None, Indexed, Named}
 use Rattle.rules.specs.Text.{Text, fits, refused, mark}

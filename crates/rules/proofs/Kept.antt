@@ -8,7 +8,7 @@ use lib.Dec.{leb}
 use borrow.Author.Tests.{leb-true, leb-false}
 use lib.ListN.{length, take, drop, take-append-drop, length-append}
 use lib.Seq.{take-append_seam, take-append-le, take-append-add, take-take}
-use Rattle.rules.specs.Base.{if◌then◌else◌}
+use Rattle.std.specs.Prelude.{if◌then◌else◌}
 use Rattle.rules.specs.Text.{trim_cons, trim_end, Text, fits, refused, cut}
 use Rattle.rules.specs.Due.{white, strip}
 use Rattle.rules.proofs.Strip.{strip-append}

@@ -12,7 +12,8 @@ use Rattle.rules.specs.declared.Indent.{Indent}
 use Rattle.rules.specs.declared.Indent.TheVariants as indent
 use Rattle.rules.specs.declared.IndentType.{IndentType}
 use Rattle.rules.specs.declared.IndentType.TheVariants.{Top, Block, FoldedBlock}
-use Rattle.rules.specs.Base.{if◌then◌else◌, full}
+use Rattle.rules.specs.Base.{full}
+use Rattle.std.specs.Prelude.{if◌then◌else◌}
 use Rattle.rules.specs.Sheet.{Env}
 use Rattle.rules.specs.Text.{is_blank, is_white, trim_start, trim_cons, trim_end, blank_before, squeeze, equalize_whitespace, lead_line, indent_comment, indent_of, trimmed, line_feeds}
 use Rattle.rules.specs.Indentation.{Indentation, PreviousTokens, unfolded, pop_top, pop_block}

@@ -13,7 +13,7 @@ use Rattle.rules.specs.declared.Checked.{Checked}
 use Rattle.rules.specs.declared.Checked.TheVariants as found
 use Rattle.rules.specs.declared.Counts.{Counts}
 use Rattle.rules.specs.declared.Report.{Report}
-use Rattle.rules.specs.Base.{if◌then◌else◌}
+use Rattle.std.specs.Prelude.{if◌then◌else◌}
 use Rattle.rules.specs.Checks.{checked}
 use Rattle.rules.specs.Sheet.{params_of, env_of, tokens_of}
 use Rattle.rules.specs.Answer.{Answer, laid, refusal, format, is_withdrawn, answer_as, answer, report_of, buffer_of, reported, buffer_after}

@@ -18,7 +18,8 @@ use Rattle.rules.specs.declared.IndentType.TheVariants.{Top}
 use Rattle.rules.specs.declared.BlockInfo.{BlockInfo}
 use Rattle.rules.specs.declared.FormatOptions.{FormatOptions}
 use Rattle.rules.specs.Bytes.{bytes}
-use Rattle.rules.specs.Base.{if◌then◌else◌, same, full}
+use Rattle.rules.specs.Base.{same, full}
+use Rattle.std.specs.Prelude.{if◌then◌else◌}
 use Rattle.rules.specs.Tokens.{Token, Here, is}
 use Rattle.rules.specs.Sheet.{Env}
 use Rattle.rules.specs.Text.{Text, fits, refused, mark}
@@ -232,7 +233,7 @@ module _ (e : Env) (before : List Token) (t : Token) (after : List Token) (w : S
         let b : blocks_in (format_closing_parentheses e here m).indentation.indent_types ≡ blocks_in s.indentation.indent_types - 1 = closing-blocks e here m in
         let u : suc (length l) ≤ blocks_in s.indentation.indent_types = rw active at n.under in
         let q : quiet (suc (length l) - 1) after ≡ true = rw o at calm-here.1 in
-        still (format_closing_parentheses e here m) (rw o) (rw o) (rw (i, b) (omega arith)) (rw i (rw (less_one (length l)) at q))
+        still (format_closing_parentheses e here m) (rw o) (by_kind kind.CloseParen o) (rw (i, b) (omega arith)) (rw i (rw (less_one (length l)) at q))
 
     active_open : t.kind ≡ kind.OpenParen → full s.indentation.indent_types ≡ false → After
     unfolding taken_as format_token on_text is_active begins_inline begin_if_possible
@@ -243,7 +244,7 @@ module _ (e : Env) (before : List Token) (t : Token) (after : List Token) (w : S
         let b : blocks_in (format_opening_parentheses e here info m).indentation.indent_types ≡ suc (blocks_in s.indentation.indent_types) = (opening-blocks e here info m).more f in
         let u : suc (length l) ≤ blocks_in s.indentation.indent_types = rw active at n.under in
         let q : quiet (suc (length l) + 1) after ≡ true = rw o at calm-here.1 in
-        still (format_opening_parentheses e here info m) (rw o) (rw o) (rw (i, b) (omega arith)) (rw i (rw (more-one (suc (length l))) at q))
+        still (format_opening_parentheses e here info m) (rw o) (by_kind kind.OpenParen o) (rw (i, b) (omega arith)) (rw i (rw (more-one (suc (length l))) at q))
 
     -- 6 was not given
     not-six : t.kind ≡ kind.OpenParen → (k m : ℕ) (b : List ℕ) → (taken (turn_of w t.kind t.value) e here s).text ≡ fits k m b → full s.indentation.indent_types ≡ false

@@ -16,7 +16,8 @@ use Rattle.rules.specs.declared.Case.TheVariants as case
 use Rattle.rules.specs.declared.OneIndexed.{OneIndexed}
 use Rattle.rules.specs.declared.Index.{Index}
 use Rattle.rules.specs.declared.Index.TheVariants as index
-use Rattle.rules.specs.Base.{if◌then◌else◌, same, any_of, find, nth?, or_else}
+use Rattle.rules.specs.Base.{same, any_of, find, nth?, or_else}
+use Rattle.std.specs.Prelude.{if◌then◌else◌}
 use Rattle.rules.specs.Tokens.{Key, absent, named, zero_indexed, one_indexed, from_one}
 use Rattle.rules.specs.Sheet.{Env, Param, QueryParams, None, Indexed, Named}
 use Rattle.rules.specs.Text.{to_upper, to_lower, byte_in_case, in_case}

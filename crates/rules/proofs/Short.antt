@@ -15,7 +15,8 @@ use Rattle.rules.specs.declared.Indent.TheVariants as indent
 use Rattle.rules.specs.declared.Counts.{Counts}
 use Rattle.rules.specs.declared.Place.{Place}
 use Rattle.rules.specs.Bytes.{bytes}
-use Rattle.rules.specs.Base.{if◌then◌else◌, same, nth?, or_else}
+use Rattle.rules.specs.Base.{same, nth?, or_else}
+use Rattle.std.specs.Prelude.{if◌then◌else◌}
 use Rattle.rules.specs.Tokens.{Key, Token, is}
 use Rattle.rules.specs.Words.{word_at, body_at}
 use Rattle.rules.specs.Sheet.{Env, Param, QueryParams, None, Indexed, Named, body_part, list_of, indent_from, options_of, token_of, value_of, param_of, params_of, env_of, tokens_of}

@@ -9,7 +9,7 @@ use lib.ListN.{replicate}
 use borrow.Author.Tests.{eqb-true, leb-true}
 use Rattle.rules.specs.declared.Indent.{Indent}
 use Rattle.rules.specs.declared.Indent.TheVariants as indent
-use Rattle.rules.specs.Base.{if◌then◌else◌}
+use Rattle.std.specs.Prelude.{if◌then◌else◌}
 use Rattle.rules.specs.Text.{is_blank, is_white, trim_cons, trim_end, trim_start, blank_before, squeeze, equalize_whitespace, lead_line, indent_comment, indent_of, trimmed}
 use Rattle.rules.specs.Due.{white, strip}
 

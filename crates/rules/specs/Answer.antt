@@ -1,11 +1,10 @@
 -- The whole: from any bytes and any buffer length to the answer, and to the bytes that the buffer holds afterwards.
-use Rattle.std.specs.Prelude.{Bool, List, [], ◌∷◌, ◌++◌, ℕ, ◌-◌, eqb, length, replicate}
+use Rattle.std.specs.Prelude.{if◌then◌else◌, Bool, List, [], ◌∷◌, ◌++◌, ℕ, ◌-◌, eqb, length, replicate}
 use Rattle.rules.specs.declared.Turn.{Turn}
 use Rattle.rules.specs.declared.Turn.TheVariants as turn
 use Rattle.rules.specs.declared.Checked.{Checked}
 use Rattle.rules.specs.declared.Checked.TheVariants as found
 use Rattle.rules.specs.declared.Report.{Report}
-use Rattle.rules.specs.Base.{if◌then◌else◌}
 use Rattle.rules.specs.Tokens.{Token, Here}
 use Rattle.rules.specs.Text.{Text, fits, refused, mark, bytes_in, trimmed, lines, width}
 use Rattle.rules.specs.Words.{word_at}

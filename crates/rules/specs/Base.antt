@@ -1,14 +1,10 @@
 -- Tests and choices that the rules share.
-use Rattle.std.specs.Prelude.{Bool, true, false, ◌&&◌, ◌||◌, List, [], ◌∷◌, ℕ, zero, suc, eqb, leb, length}
+use Rattle.std.specs.Prelude.{if◌then◌else◌, Bool, true, false, ◌&&◌, ◌||◌, List, [], ◌∷◌, ℕ, zero, suc, eqb, leb, length}
 use Rattle.std.proofs.Math.Option.{Option, none, some}
 use Rattle.rules.specs.declared.Limit.{Limit}
 use Rattle.rules.specs.declared.Limit.TheVariants as limit
 
-infix 15 if◌then◌else◌
 infixl 20 ◌▹◌
-abbrev pub if◌then◌else◌ {ℓ} : {A : Type ℓ} → Bool → A → A → A
-if◌then◌else◌ true a b = a
-if◌then◌else◌ false a b = b
 
 -- a value, then what is done to it: rules read from left to right, as the code runs
 abbrev pub ◌▹◌ {ℓ κ} : {A : Type ℓ} {B : Type κ} → A → (A → B) → B
@@ -33,12 +29,12 @@ any_of p [] = false
 any_of p (x ∷ xs) = p x || any_of p xs
 
 -- the first element with p
-abbrev pub first {ℓ} : {A : Type ℓ} → (A → Bool) → List A → Option A
+abbrev pub first : {A : Type 0} → (A → Bool) → List A → Option A
 first p [] = none
 first p (x ∷ xs) = if p x then some x else first p xs
 
 -- the number of the first element with p, counted from n
-abbrev pub find {ℓ} : {A : Type ℓ} → (A → Bool) → ℕ → List A → Option ℕ
+abbrev pub find : {A : Type 0} → (A → Bool) → ℕ → List A → Option ℕ
 find p n [] = none
 find p n (x ∷ xs) = if p x then some n else find p (suc n) xs
 

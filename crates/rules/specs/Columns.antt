@@ -1,6 +1,6 @@
 -- The longest line in bytes: the width of a text without tabs.
-use Rattle.std.specs.Prelude.{Bool, List, [], ◌∷◌, ℕ, suc, max, eqb}
-use Rattle.rules.specs.Base.{if◌then◌else◌, any_of}
+use Rattle.std.specs.Prelude.{if◌then◌else◌, Bool, List, [], ◌∷◌, ℕ, suc, max, eqb}
+use Rattle.rules.specs.Base.{any_of}
 
 -- at is the length of the line so far, best that of the longest line before it
 abbrev pub longest_from : ℕ → ℕ → List ℕ → ℕ

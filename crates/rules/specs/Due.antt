@@ -1,6 +1,6 @@
 -- Demand 3 in its own words: what is due of a sheet, white bytes taken out. With the rules of the layout it shares the declared types, the reading of a
 -- sheet, the lists of `Base`, the bytes of a quoted text, and the recogniser of a switch comment's bytes (`check_fmt_off`); nothing else.
-use Rattle.std.specs.Prelude.{◌≡◌, Bool, true, false, not, List, [], ◌∷◌, ◌++◌, map, ℕ, zero, suc, eqb, take}
+use Rattle.std.specs.Prelude.{if◌then◌else◌, ◌≡◌, Bool, true, false, not, List, [], ◌∷◌, ◌++◌, map, ℕ, zero, suc, eqb, take}
 use Rattle.std.proofs.Math.Option.{Option, none, some}
 use Rattle.rules.specs.declared.TokenKind.{TokenKind}
 use Rattle.rules.specs.declared.TokenKind.TheVariants as kind
@@ -10,7 +10,7 @@ use Rattle.rules.specs.declared.Checked.{Checked}
 use Rattle.rules.specs.declared.Checked.TheVariants as found
 use Rattle.rules.specs.declared.Report.{Report}
 use Rattle.rules.specs.Bytes.{bytes}
-use Rattle.rules.specs.Base.{if◌then◌else◌, same, any_of, nth?, or_else}
+use Rattle.rules.specs.Base.{same, any_of, nth?, or_else}
 use Rattle.rules.specs.Tokens.{Key, absent, named, zero_indexed, one_indexed, Token}
 use Rattle.rules.specs.Checks.{checked}
 use Rattle.rules.specs.Sheet.{Param, QueryParams, None, Indexed, Named, options_of, params_of, keeps_of, tokens_of}

@@ -1,5 +1,5 @@
 -- formatter.rs, function by function.
-use Rattle.std.specs.Prelude.{Bool, true, false, not, ◌&&◌, ◌||◌, ℕ, suc, ◌+◌, ◌-◌, eqb, leb, ltb, length, replicate}
+use Rattle.std.specs.Prelude.{if◌then◌else◌, Bool, true, false, not, ◌&&◌, ◌||◌, ℕ, suc, ◌+◌, ◌-◌, eqb, leb, ltb, length, replicate}
 use Rattle.std.proofs.Math.Option.{Option, none, some}
 use mathlib.Core.List.{List, [], ◌∷◌, tail}
 use Rattle.rules.specs.declared.TokenKind.{TokenKind}
@@ -11,7 +11,7 @@ use Rattle.rules.specs.declared.Limit.TheVariants as limit
 use Rattle.rules.specs.declared.SpanInfo.{SpanInfo}
 use Rattle.rules.specs.declared.BlockInfo.{BlockInfo}
 use Rattle.rules.specs.Bytes.{bytes}
-use Rattle.rules.specs.Base.{if◌then◌else◌, ◌▹◌, same, any_of, first, head?, holds, or_zero, is_some, choose, when, full}
+use Rattle.rules.specs.Base.{◌▹◌, same, any_of, first, head?, holds, or_zero, is_some, choose, when, full}
 use Rattle.rules.specs.Tokens.{Token, Here, is, one_of}
 use Rattle.rules.specs.Sheet.{Env}
 use Rattle.rules.specs.Text.{in_case, is_lower, equalize_whitespace, indent_comment, is_on}

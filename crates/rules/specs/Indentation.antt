@@ -1,12 +1,12 @@
 -- indentation.rs: the stacks of indent kinds, spans and previous words, as lists with the top first.
 -- W is what stands for a word: its value in these rules, its place in the code.
-use Rattle.std.specs.Prelude.{Bool, true, false, ◌&&◌, ℕ, suc, ◌-◌, eqb, leb, get_or}
+use Rattle.std.specs.Prelude.{if◌then◌else◌, Bool, true, false, ◌&&◌, ℕ, suc, ◌-◌, eqb, leb, get_or}
 use Rattle.std.proofs.Math.Option.{Option, none, some}
 use mathlib.Core.List.{List, [], ◌∷◌, tail}
 use Rattle.rules.specs.declared.IndentType.{IndentType}
 use Rattle.rules.specs.declared.IndentType.TheVariants.{Top, Block, FoldedBlock}
 use Rattle.rules.specs.declared.SpanInfo.{SpanInfo}
-use Rattle.rules.specs.Base.{if◌then◌else◌, full}
+use Rattle.rules.specs.Base.{full}
 
 -- what is asked of the last top-level word's span, and the last reserved word
 pub record PreviousTokens (W : Type 0) : Type 0 where

@@ -1,5 +1,5 @@
 -- inline_block.rs: the length of a block, and the open inline blocks, as a list of their lengths with the innermost first.
-use Rattle.std.specs.Prelude.{Bool, true, false, not, ◌&&◌, ◌||◌, List, [], ◌∷◌, ℕ, ◌+◌, ◌-◌, max, eqb, leb, ltb, length, get_or}
+use Rattle.std.specs.Prelude.{if◌then◌else◌, Bool, true, false, not, ◌&&◌, ◌||◌, List, [], ◌∷◌, ℕ, ◌+◌, ◌-◌, max, eqb, leb, ltb, length, get_or}
 use Rattle.rules.specs.declared.TokenKind.{TokenKind}
 use Rattle.rules.specs.declared.TokenKind.TheVariants as kind
 use Rattle.rules.specs.declared.Part.{Part}
@@ -9,7 +9,7 @@ use Rattle.rules.specs.declared.Start.TheVariants as start
 use Rattle.rules.specs.declared.BlockInfo.{BlockInfo}
 use Rattle.rules.specs.declared.FormatOptions.{FormatOptions}
 use Rattle.rules.specs.Bytes.{bytes}
-use Rattle.rules.specs.Base.{if◌then◌else◌, same, or_zero}
+use Rattle.rules.specs.Base.{same, or_zero}
 use Rattle.rules.specs.Tokens.{Token}
 
 -- ---- build_info

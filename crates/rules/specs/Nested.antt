@@ -1,12 +1,12 @@
 -- Wish 11: why no sheet has a 129th open inline block, for which document 01 had refusal 7.
 -- An inline block holds no comment and no `;`, so nothing clears the indent stack while it is open, and each open one has its entry there.
-use Rattle.std.specs.Prelude.{◌≡◌, Bool, true, false, not, ◌&&◌, ◌||◌, List, [], ◌∷◌, ℕ, suc, ◌≤◌, eqb, length}
+use Rattle.std.specs.Prelude.{if◌then◌else◌, ◌≡◌, Bool, true, false, not, ◌&&◌, ◌||◌, List, [], ◌∷◌, ℕ, suc, ◌≤◌, eqb, length}
 use Rattle.rules.specs.declared.TokenKind.TheVariants as kind
 use Rattle.rules.specs.declared.Turn.{Turn}
 use Rattle.rules.specs.declared.Turn.TheVariants as turn
 use Rattle.rules.specs.declared.IndentType.{IndentType}
 use Rattle.rules.specs.declared.IndentType.TheVariants.{Top, Block, FoldedBlock}
-use Rattle.rules.specs.Base.{if◌then◌else◌, full}
+use Rattle.rules.specs.Base.{full}
 use Rattle.rules.specs.Tokens.{Token, Here, is}
 use Rattle.rules.specs.Sheet.{Env}
 use Rattle.rules.specs.InlineBlock.{part_of, level_after, closes_at, is_forbidden_token, is_active, build_info, begins_inline}

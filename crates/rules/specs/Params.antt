@@ -1,9 +1,9 @@
 -- params.rs: which entry a placeholder shows, and what is shown.
-use Rattle.std.specs.Prelude.{Bool, true, false, List, [], ◌∷◌, ℕ, ltb, length}
+use Rattle.std.specs.Prelude.{if◌then◌else◌, Bool, true, false, List, [], ◌∷◌, ℕ, ltb, length}
 use Rattle.std.proofs.Math.Option.{Option, none, some}
 use Rattle.rules.specs.declared.Index.{Index}
 use Rattle.rules.specs.declared.Index.TheVariants as index
-use Rattle.rules.specs.Base.{if◌then◌else◌, same, find, nth?, or_else}
+use Rattle.rules.specs.Base.{same, find, nth?, or_else}
 use Rattle.rules.specs.Tokens.{Key, absent, named, zero_indexed, one_indexed, from_one}
 use Rattle.rules.specs.Sheet.{Param, QueryParams, None, Indexed, Named}
 

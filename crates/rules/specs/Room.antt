@@ -1,5 +1,5 @@
 -- Wish 9: how long a buffer is always enough, token by token.
-use Rattle.std.specs.Prelude.{Bool, ◌&&◌, List, [], ◌∷◌, ℕ, suc, ◌+◌, ◌*◌, length}
+use Rattle.std.specs.Prelude.{if◌then◌else◌, Bool, ◌&&◌, List, [], ◌∷◌, ℕ, suc, ◌+◌, ◌*◌, length}
 use Rattle.rules.specs.declared.TokenKind.TheVariants as kind
 use Rattle.rules.specs.declared.Turn.{Turn}
 use Rattle.rules.specs.declared.Turn.TheVariants as turn
@@ -10,7 +10,7 @@ use Rattle.rules.specs.declared.Checked.{Checked}
 use Rattle.rules.specs.declared.Checked.TheVariants as found
 use Rattle.rules.specs.declared.Outcome.{Outcome}
 use Rattle.rules.specs.Bytes.{bytes}
-use Rattle.rules.specs.Base.{if◌then◌else◌, same, when}
+use Rattle.rules.specs.Base.{same, when}
 use Rattle.rules.specs.Tokens.{Token, is}
 use Rattle.rules.specs.Checks.{checked}
 use Rattle.rules.specs.Sheet.{QueryParams, options_of, params_of, tokens_of}

@@ -1,5 +1,5 @@
 -- Wish 2: where each placeholder that was laid out stands in the text, and the call that lists them.
-use Rattle.std.specs.Prelude.{Bool, false, List, [], ◌∷◌, ◌++◌, map, ℕ, suc, ◌+◌, ◌-◌, ◌*◌, ◌/◌, ◌%◌, ◌^◌, min, ltb, length, replicate}
+use Rattle.std.specs.Prelude.{if◌then◌else◌, Bool, false, List, [], ◌∷◌, ◌++◌, map, ℕ, suc, ◌+◌, ◌-◌, ◌*◌, ◌/◌, ◌%◌, ◌^◌, min, ltb, length, replicate}
 use Rattle.std.proofs.Math.Option.{Option, none, some}
 use Rattle.rules.specs.declared.TokenKind.{TokenKind}
 use Rattle.rules.specs.declared.TokenKind.TheVariants as kind
@@ -9,7 +9,7 @@ use Rattle.rules.specs.declared.Counts.{Counts}
 use Rattle.rules.specs.declared.Checked.{Checked}
 use Rattle.rules.specs.declared.Checked.TheVariants as found
 use Rattle.rules.specs.declared.Report.{Report}
-use Rattle.rules.specs.Base.{if◌then◌else◌, ◌▹◌, when}
+use Rattle.rules.specs.Base.{◌▹◌, when}
 use Rattle.rules.specs.Tokens.{Token, is}
 use Rattle.rules.specs.Text.{is_white, trim_end, trimmed, low_of, bytes_in}
 use Rattle.rules.specs.Checks.{checked}

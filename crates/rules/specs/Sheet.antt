@@ -1,5 +1,5 @@
 -- What a checked sheet says: options, parameters, keep words and tokens, values and names as bytes.
-use Rattle.std.specs.Prelude.{List, [], ◌∷◌, ℕ, zero, suc, ◌+◌, ◌-◌, ◌*◌, eqb, take, drop, get_or}
+use Rattle.std.specs.Prelude.{if◌then◌else◌, List, [], ◌∷◌, ℕ, zero, suc, ◌+◌, ◌-◌, ◌*◌, eqb, take, drop, get_or}
 use Rattle.rules.specs.declared.Place.{Place}
 use Rattle.rules.specs.declared.PlaceholderKind.{PlaceholderKind}
 use Rattle.rules.specs.declared.PlaceholderKind.TheVariants as key
@@ -14,7 +14,6 @@ use Rattle.rules.specs.declared.Limit.{Limit}
 use Rattle.rules.specs.declared.Limit.TheVariants as limit
 use Rattle.rules.specs.declared.FormatOptions.{FormatOptions}
 use Rattle.rules.specs.declared.Counts.{Counts}
-use Rattle.rules.specs.Base.{if◌then◌else◌}
 use Rattle.rules.specs.Tokens.{Key, absent, named, zero_indexed, one_indexed, Token, Here}
 use Rattle.rules.specs.Words.{word_at, place_at, token_at, params_at, keeps_at, body_at}
 

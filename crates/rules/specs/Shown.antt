@@ -1,11 +1,11 @@
 -- Wish 2 for its reader: what the second call's list says of a sheet, its report and its buffer.
-use Rattle.std.specs.Prelude.{◌≡◌, ◌↔◌, true, ◌&&◌, List, [], ◌∷◌, ◌++◌, ℕ, suc, ◌+◌, ◌-◌, ◌*◌, ◌≤◌, ◌<◌, length, take, drop, replicate}
+use Rattle.std.specs.Prelude.{if◌then◌else◌, ◌≡◌, ◌↔◌, true, ◌&&◌, List, [], ◌∷◌, ◌++◌, ℕ, suc, ◌+◌, ◌-◌, ◌*◌, ◌≤◌, ◌<◌, length, take, drop, replicate}
 use Rattle.std.proofs.Math.Option.{Option, none, some}
 use Rattle.rules.specs.declared.TokenKind.TheVariants as kind
 use Rattle.rules.specs.declared.Checked.{Checked}
 use Rattle.rules.specs.declared.Checked.TheVariants as found
 use Rattle.rules.specs.declared.Report.{Report}
-use Rattle.rules.specs.Base.{if◌then◌else◌, when, nth?, or_else}
+use Rattle.rules.specs.Base.{when, nth?, or_else}
 use Rattle.rules.specs.Tokens.{Token, is}
 use Rattle.rules.specs.Checks.{checked}
 use Rattle.rules.specs.Sheet.{QueryParams, options_of, params_of, keeps_of, tokens_of}

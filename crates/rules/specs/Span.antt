@@ -1,5 +1,5 @@
 -- formatter.rs, `top_level_tokens_info`: the span of a top-level word, read from the tokens after it.
-use Rattle.std.specs.Prelude.{Bool, true, false, not, ◌&&◌, ◌||◌, List, [], ◌∷◌, ℕ, ◌+◌, ◌-◌, min, max, eqb, ltb, length}
+use Rattle.std.specs.Prelude.{if◌then◌else◌, Bool, true, false, not, ◌&&◌, ◌||◌, List, [], ◌∷◌, ℕ, ◌+◌, ◌-◌, min, max, eqb, ltb, length}
 use Rattle.rules.specs.declared.TokenKind.{TokenKind}
 use Rattle.rules.specs.declared.TokenKind.TheVariants as kind
 use Rattle.rules.specs.declared.Sort.{Sort}
@@ -8,7 +8,7 @@ use Rattle.rules.specs.declared.Scan.{Scan}
 use Rattle.rules.specs.declared.SpanInfo.{SpanInfo}
 use Rattle.rules.specs.declared.FormatOptions.{FormatOptions}
 use Rattle.rules.specs.Bytes.{bytes}
-use Rattle.rules.specs.Base.{if◌then◌else◌, same, or_zero}
+use Rattle.rules.specs.Base.{same, or_zero}
 use Rattle.rules.specs.Tokens.{Token}
 
 -- an operator is `;`, `,` or neither

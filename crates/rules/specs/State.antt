@@ -1,7 +1,7 @@
 -- The layout state, and the small steps that the handlers are chains of.
-use Rattle.std.specs.Prelude.{Bool, false, List, [], ◌∷◌, ℕ}
+use Rattle.std.specs.Prelude.{if◌then◌else◌, Bool, false, List, [], ◌∷◌, ℕ}
 use Rattle.rules.specs.declared.SpanInfo.{SpanInfo}
-use Rattle.rules.specs.Base.{if◌then◌else◌, ◌▹◌, full}
+use Rattle.rules.specs.Base.{◌▹◌, full}
 use Rattle.rules.specs.Sheet.{Env}
 use Rattle.rules.specs.Text.{Text, fits, append, refuse, cut_blanks, cut_white, indent_of, is_on, new_line, closing_line}
 use Rattle.rules.specs.Indentation.{Indentation, no_indentation, indent_level}

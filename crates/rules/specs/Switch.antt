@@ -1,5 +1,5 @@
 -- formatter.rs, `check_fmt_off`: nine states against the bytes they move on; and how a token is taken.
-use Rattle.std.specs.Prelude.{Bool, true, false, not, List, [], ◌∷◌, ℕ, suc, eqb, get_or}
+use Rattle.std.specs.Prelude.{if◌then◌else◌, Bool, true, false, not, List, [], ◌∷◌, ℕ, suc, eqb, get_or}
 use Rattle.std.proofs.Math.Option.{Option, none, some}
 use Prim.Native.String.{String}
 use Rattle.rules.specs.declared.TokenKind.{TokenKind}
@@ -7,7 +7,7 @@ use Rattle.rules.specs.declared.TokenKind.TheVariants as kind
 use Rattle.rules.specs.declared.Turn.{Turn}
 use Rattle.rules.specs.declared.Turn.TheVariants as turn
 use Rattle.rules.specs.Bytes.{bytes}
-use Rattle.rules.specs.Base.{if◌then◌else◌, any_of, first}
+use Rattle.rules.specs.Base.{any_of, first}
 use Rattle.rules.specs.Tokens.{one_of}
 
 -- on a byte a state stays, goes on to the next, or answers that the comment switches off (true) or on

@@ -1,12 +1,12 @@
 -- Rules on bytes: white bytes, cutting, casing, joining blanks, comments; the working text, which a refusal replaces; lines and width.
-use Rattle.std.specs.Prelude.{Bool, true, false, ◌&&◌, ◌||◌, List, [], ◌∷◌, ◌++◌, map, ℕ, suc, ◌+◌, ◌-◌, ◌*◌, ◌/◌, min, max, eqb, leb, length, take, drop, replicate}
+use Rattle.std.specs.Prelude.{if◌then◌else◌, Bool, true, false, ◌&&◌, ◌||◌, List, [], ◌∷◌, ◌++◌, map, ℕ, suc, ◌+◌, ◌-◌, ◌*◌, ◌/◌, min, max, eqb, leb, length, take, drop, replicate}
 use Rattle.rules.specs.declared.Case.{Case}
 use Rattle.rules.specs.declared.Case.TheVariants as case
 use Rattle.rules.specs.declared.Inline.{Inline}
 use Rattle.rules.specs.declared.Inline.TheVariants as inline
 use Rattle.rules.specs.declared.Indent.{Indent}
 use Rattle.rules.specs.declared.Indent.TheVariants as indent
-use Rattle.rules.specs.Base.{if◌then◌else◌, ◌▹◌, same}
+use Rattle.rules.specs.Base.{◌▹◌, same}
 
 -- a blank or a tab
 abbrev pub is_blank : ℕ → Bool

@@ -1,12 +1,12 @@
 -- Tokens as the rules see them: the declared kinds and numbers, with the bytes of values and names.
-use Rattle.std.specs.Prelude.{Bool, List, ℕ, ◌-◌, eqb}
+use Rattle.std.specs.Prelude.{if◌then◌else◌, Bool, List, ℕ, ◌-◌, eqb}
 use Rattle.rules.specs.declared.TokenKind.{TokenKind}
 use Rattle.rules.specs.declared.TokenKind.TheVariants as kind
 use Rattle.rules.specs.declared.ZeroIndexed.{ZeroIndexed}
 use Rattle.rules.specs.declared.OneIndexed.{OneIndexed}
 use Rattle.rules.specs.declared.Index.{Index}
 use Rattle.rules.specs.declared.Index.TheVariants as index
-use Rattle.rules.specs.Base.{if◌then◌else◌, any_of}
+use Rattle.rules.specs.Base.{any_of}
 
 pub data Key : Type 0 where
   absent : Key

@@ -1,5 +1,5 @@
 -- The sheet's words and records, at any byte offset of any bytes.
-use Rattle.std.specs.Prelude.{Bool, List, [], ◌∷◌, ◌++◌, ℕ, ◌+◌, ◌*◌, ◌/◌, ◌%◌, eqb, get_or}
+use Rattle.std.specs.Prelude.{if◌then◌else◌, Bool, List, [], ◌∷◌, ◌++◌, ℕ, ◌+◌, ◌*◌, ◌/◌, ◌%◌, eqb, get_or}
 use Rattle.rules.specs.declared.Place.{Place}
 use Rattle.rules.specs.declared.PlaceholderKind.{PlaceholderKind}
 use Rattle.rules.specs.declared.PlaceholderKind.TheVariants as key
@@ -7,7 +7,6 @@ use Rattle.rules.specs.declared.TokenKind.{TokenKind}
 use Rattle.rules.specs.declared.TokenKind.TheVariants as kind
 use Rattle.rules.specs.declared.Token.{Token}
 use Rattle.rules.specs.declared.Counts.{Counts}
-use Rattle.rules.specs.Base.{if◌then◌else◌}
 
 -- the little-endian word at a byte offset
 unfoldable pub word_at : List ℕ → ℕ → ℕ

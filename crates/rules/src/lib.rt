@@ -1,7 +1,8 @@
 // The types that the rules and the code share. The rules themselves stand in specs/.
+#![tactic(auto)]
 
 // A part of the bodies; a start counts from the first body byte.
-#[derive(Drop)]
+#[derive(Clone, Copy)]
 pub struct Place {
     pub start: u32,
     pub len: u32,
@@ -9,7 +10,7 @@ pub struct Place {
 
 // ---- tokenizer.rs
 
-#[derive(Drop)]
+#[derive(Clone, Copy)]
 pub enum TokenKind {
     TypeSpecifier,
     Whitespace,
@@ -31,11 +32,11 @@ pub enum TokenKind {
 }
 
 // A number that counts from nought.
-#[derive(Drop)]
+#[derive(Clone, Copy)]
 pub struct ZeroIndexed(pub u32);
 
 // A number that counts from one.
-#[derive(Drop)]
+#[derive(Clone, Copy)]
 pub struct OneIndexed(pub u32);
 
 // A number that counts from one, converted; nought is refused.
@@ -45,7 +46,7 @@ pub enum Index {
     Refused,
 }
 
-#[derive(Drop)]
+#[derive(Clone, Copy)]
 pub enum PlaceholderKind {
     Absent,
     Named(Place),
@@ -53,7 +54,7 @@ pub enum PlaceholderKind {
     One(OneIndexed),
 }
 
-#[derive(Drop)]
+#[derive(Clone, Copy)]
 pub struct Token {
     pub kind: TokenKind,
     pub value: Place,
@@ -63,13 +64,13 @@ pub struct Token {
 
 // ---- lib.rs
 
-#[derive(Drop)]
+#[derive(Clone, Copy)]
 pub enum Indent {
     Spaces(u8),
     Tabs,
 }
 
-#[derive(Drop)]
+#[derive(Clone, Copy)]
 pub enum Case {
     AsIs,
     Upper,
@@ -77,20 +78,20 @@ pub enum Case {
 }
 
 // Whether all goes on one line, but for a line feed after each line comment.
-#[derive(Drop)]
+#[derive(Clone, Copy)]
 pub enum Inline {
     Off,
     Comments,
 }
 
 // A limit that may be left out.
-#[derive(Drop)]
+#[derive(Clone, Copy)]
 pub enum Limit {
     None,
     Some(u32),
 }
 
-#[derive(Drop)]
+#[derive(Clone, Copy)]
 pub struct FormatOptions {
     pub indent: Indent,
     pub casing: Case,
@@ -101,7 +102,7 @@ pub struct FormatOptions {
     pub max_inline_top_level: Limit,
 }
 
-#[derive(Drop)]
+#[derive(Clone, Copy)]
 pub struct SpanInfo {
     pub full_span: u32,
     pub blocks: u16,
@@ -122,7 +123,7 @@ pub enum IndentType {
 // ---- formatter.rs
 
 // What a token is to the reading ahead of a top-level word.
-#[derive(Drop)]
+#[derive(Clone, Copy)]
 pub enum Sort {
     Open,
     Close,
@@ -143,7 +144,7 @@ pub struct Scan {
 }
 
 // How a token is taken: dropped after a switch comment; a switch comment, which switches off or on; laid out; copied.
-#[derive(Drop)]
+#[derive(Clone, Copy)]
 pub enum Turn {
     Dropped,
     Switches(bool),
@@ -154,7 +155,7 @@ pub enum Turn {
 // ---- inline_block.rs
 
 // What a token is to the length of a block.
-#[derive(Drop)]
+#[derive(Clone, Copy)]
 pub enum Part {
     Top,
     Newline,
@@ -165,13 +166,13 @@ pub enum Part {
 }
 
 // Where a top-level word waits for the next of its level: its level, and the length up to it.
-#[derive(Drop)]
+#[derive(Clone, Copy)]
 pub enum Start {
     Nowhere,
     At { level: u32, span: u32 },
 }
 
-#[derive(Drop)]
+#[derive(Clone, Copy)]
 pub struct BlockInfo {
     pub length: u32,
     pub level: u32,
@@ -184,7 +185,7 @@ pub struct BlockInfo {
 // ---- the sheet
 
 // How many tokens, parameters, keep words and body bytes.
-#[derive(Drop)]
+#[derive(Clone, Copy)]
 pub struct Counts {
     pub tokens: usize,
     pub params: usize,
@@ -193,7 +194,7 @@ pub struct Counts {
 }
 
 // Where a check finds its first offence.
-#[derive(Drop)]
+#[derive(Clone, Copy)]
 pub enum Offence {
     At(usize),
     Nowhere,
@@ -211,7 +212,7 @@ pub enum Checked {
 
 // The answer in numbers: a refusal's number and place, or 0, 0 and the text's length, lines and width.
 #[repr(C)]
-#[derive(Drop)]
+#[derive(Clone, Copy)]
 pub struct Report {
     pub refusal: u32,
     pub place: u64,
@@ -222,7 +223,7 @@ pub struct Report {
 
 // The answer of a call that lays nothing out: a refusal's number and place, or 0, 0 and a length.
 #[repr(C)]
-#[derive(Drop)]
+#[derive(Clone, Copy)]
 pub struct Outcome {
     pub refusal: u32,
     pub place: u64,

@@ -1,44 +1,37 @@
 // The sheet program: one sheet on standard input, its text or its refusal on standard output.
-use libc::{STDIN_FILENO, STDOUT_FILENO};
-use rules::Report;
+#![tactic(auto)]
 
-fn write_counts(r: Report) {
-    io::write_all(STDOUT_FILENO, b"ok ");
-    io::print_decimal(STDOUT_FILENO, r.length);
-    io::write_all(STDOUT_FILENO, b" ");
-    io::print_decimal(STDOUT_FILENO, r.lines);
-    io::write_all(STDOUT_FILENO, b" ");
-    io::print_decimal(STDOUT_FILENO, r.width);
-    io::write_all(STDOUT_FILENO, b"\n");
+use rules::Report;
+use std::io::{self, Read, Write};
+
+fn write_counts(rt: &impl Print, r: Report) -> io::Result<()> {
+    println!(rt; "ok {} {} {}", r.length, r.lines, r.width)
 }
 
-fn write_refusal(r: Report) {
-    io::write_all(STDOUT_FILENO, b"refused ");
-    io::print_decimal(STDOUT_FILENO, r.refusal as u64);
-    io::write_all(STDOUT_FILENO, b" at ");
-    io::print_decimal(STDOUT_FILENO, r.place);
-    io::write_all(STDOUT_FILENO, b"\n");
+fn write_refusal(rt: &impl Print, r: Report) -> io::Result<()> {
+    println!(rt; "refused {} at {}", r.refusal, r.place)
 }
 
 // The text is within the buffer: the test is there for the part's bound alone.
-fn write_text(text: &[u8], length: u64) {
+fn write_text(rt: &impl Print, text: &[u8], length: u64) -> io::Result<()> {
     let n = length as usize;
     if n <= text.len() {
-        io::write_all(STDOUT_FILENO, &text[..n]);
-        io::write_all(STDOUT_FILENO, b"\n");
+        let mut out = io::writer(rt);
+        out.write_all(&text[..n])?;
+        out.write_all(b"\n")?;
     }
+    Ok(())
 }
 
-fn main() {
+fn main(rt: HostRuntime) -> io::Result<()> {
     // Longer than any sound sheet, so that what is not read is refused by its length.
-    let mut sheet = io::large_buffer();
-    let n = io::read_full(STDIN_FILENO, &mut sheet);
-    let mut text = io::large_buffer();
-    let r = twigmantle::twigmantle_layout(&sheet[..n], &mut text);
+    let mut sheet = Vec::new(rt.alloc());
+    rt.reader().take(65536).read_to_end(&mut sheet)?;
+    let mut text = [0; 65536];
+    let r = twigmantle::twigmantle_layout(&sheet, &mut text);
     if r.refusal != 0 {
-        write_refusal(r);
-        return;
+        return write_refusal(&rt, r);
     }
-    write_counts(r);
-    write_text(&text, r.length);
+    write_counts(&rt, r)?;
+    write_text(&rt, &text, r.length)
 }

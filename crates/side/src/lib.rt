@@ -1,4 +1,6 @@
 // Sixteen parts of a text side by side: eight bytes of each, so that a step for all sixteen is one for a row of bytes.
+#![tactic(auto)]
+
 ghost use Rattle.std.specs.Prelude.{◌≡◌, ◌+◌, ◌*◌, ◌≤◌, length};
 ghost use Rattle.side.specs.Side.{Copied, Laid, Shuffled, SideBySide};
 

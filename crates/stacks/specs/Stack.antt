@@ -1,6 +1,5 @@
 -- A stack in the first n elements of an array, and z above them.
-use Rattle.std.specs.Prelude.{◌≡◌, List, [], ◌∷◌, ℕ, zero, suc, ◌≤◌, ltb, length, get_or}
-use Rattle.rules.specs.Base.{if◌then◌else◌}
+use Rattle.std.specs.Prelude.{if◌then◌else◌, ◌≡◌, List, [], ◌∷◌, ℕ, zero, suc, ◌≤◌, ltb, length, get_or}
 
 -- the first n elements of a, the last of them first
 abbrev pub stack : {A : Type 0} → A → ℕ → List A → List A

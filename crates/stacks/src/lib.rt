@@ -1,7 +1,8 @@
 // A stack in an array: definitions in specs/ and laws in proofs/, for the crates that keep one; and the numbers that its operations choose.
 // They choose numbers so that they need no branch on the state: where a state differs by the branch, all of it is copied.
-ghost use Rattle.std.specs.Prelude.{◌≡◌, ◌&&◌, ◌+◌, ◌-◌, ◌≤◌, ◌<◌};
-ghost use Rattle.rules.specs.Base.{if◌then◌else◌};
+#![tactic(auto)]
+
+ghost use Rattle.std.specs.Prelude.{if◌then◌else◌, ◌≡◌, ◌&&◌, ◌+◌, ◌-◌, ◌≤◌, ◌<◌};
 ghost use Rattle.stacks.specs.Stack.{within_of};
 
 // One less, and nought of nought.

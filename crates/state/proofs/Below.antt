@@ -7,7 +7,8 @@ use native.Mathlib.Omega.{arith}
 use Rattle.rules.specs.declared.IndentType.{IndentType}
 use Rattle.rules.specs.declared.IndentType.TheVariants.{Top, Block, FoldedBlock}
 use Rattle.rules.specs.declared.SpanInfo.{SpanInfo}
-use Rattle.rules.specs.Base.{if◌then◌else◌, full}
+use Rattle.rules.specs.Base.{full}
+use Rattle.std.specs.Prelude.{if◌then◌else◌}
 use Rattle.rules.specs.Indentation.{Indentation, PreviousTokens, no_indentation, no_previous, increase_top_level, increase_block_level, pop_top, decrease_top_level, pop_block, decrease_block_level, mark_reserved, mark_top_level, set_previous_reserved, set_previous_top_level, last_reserved, previous_reserved}
 use Rattle.state.specs.Below.{WordBelow, AllBelow, Below}
 

@@ -6,7 +6,8 @@ use Prim.Native.Nat.{ℕ}
 use Rattle.rules.specs.declared.IndentType.{IndentType}
 use Rattle.rules.specs.declared.IndentType.TheVariants.{Top, Block, FoldedBlock}
 use Rattle.rules.specs.declared.SpanInfo.{SpanInfo}
-use Rattle.rules.specs.Base.{if◌then◌else◌, full}
+use Rattle.rules.specs.Base.{full}
+use Rattle.std.specs.Prelude.{if◌then◌else◌}
 use Rattle.stacks.proofs.StackLaws.{tail_map}
 use Rattle.rules.specs.Indentation.{Indentation, indent_level, PreviousTokens, no_indentation, no_previous, increase_top_level, increase_block_level, pop_top, decrease_top_level, pop_block, decrease_block_level, mark_reserved, mark_top_level, set_previous_reserved, set_previous_top_level, last_reserved, last_top_level, previous_reserved, previous_top_level_reserved}
 use Rattle.state.specs.Words.{on_option, on_previous, on_words, on_closed}

@@ -1,4 +1,6 @@
 // The layout state: a value that each step takes and hands back.
+#![tactic(auto)]
+
 ghost use Rattle.std.specs.Prelude.{◌≡◌, ◌<◌};
 ghost use Rattle.state.specs.Of.{Known, value_in, with_text, with_indentation};
 
@@ -9,7 +11,7 @@ use rules::{Counts, FormatOptions};
 use text::Text;
 use tokens::to_usize;
 
-#[derive(Drop)]
+#[derive(Clone, Copy)]
 pub struct State {
     pub text: Text,
     pub indentation: Indentation,
@@ -19,7 +21,7 @@ pub struct State {
 }
 
 // What is the same for the whole sheet; base is the offset of the first body byte.
-#[derive(Drop)]
+#[derive(Clone, Copy)]
 pub struct Context {
     pub counts: Counts,
     pub base: usize,

@@ -1,5 +1,7 @@
 // A column goes on by a byte, in eight bits: the byte's code is set in it, and it goes on by one. A tab's code is the three lowest
 // bits, so that the next multiple of eight comes; a line feed's is all bits, so that the sum wraps to 0.
+#![tactic(auto)]
+
 ghost use Rattle.std.specs.Prelude.{◌≡◌, ◌+◌, ◌<◌, ◌≤◌, max, length, slice_index};
 ghost use Rattle.steps.specs.Steps.{code_of, on_by, feed_of, Below, Mapped};
 

@@ -1,4 +1,6 @@
 // Wish 2: which tokens have a row, and how many of a sheet do: the fmt switch alone decides. And how many do at most.
+#![tactic(auto)]
+
 ghost use Rattle.std.specs.Prelude.{◌≡◌, suc, ◌<◌};
 ghost use Rattle.rules.specs.declared.TokenKind.TheVariants.{Placeholder};
 ghost use Rattle.rules.specs.Base.{when};

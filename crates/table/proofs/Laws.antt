@@ -11,7 +11,7 @@ use Rattle.rules.specs.declared.TokenKind.TheVariants as kind
 use Rattle.rules.specs.declared.Sort.TheVariants as sort
 use Rattle.rules.specs.declared.BlockInfo.{BlockInfo}
 use Rattle.rules.specs.declared.FormatOptions.{FormatOptions}
-use Rattle.rules.specs.Base.{if◌then◌else◌}
+use Rattle.std.specs.Prelude.{if◌then◌else◌}
 use Rattle.rules.specs.Sheet.{token_of, here_at}
 use Rattle.rules.specs.Span.{sort_in, scan, unread, span_of, top_level_tokens_info}
 use Rattle.rules.specs.InlineBlock.{build_info}

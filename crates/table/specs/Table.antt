@@ -1,10 +1,9 @@
 -- The table of the second engine: six words for each token (docs/ahead.md).
-use Rattle.std.specs.Prelude.{◌≡◌, Bool, List, ◌∷◌, ℕ, ◌+◌, ◌*◌, ◌≤◌, ◌<◌, eqb, length, get_or}
+use Rattle.std.specs.Prelude.{if◌then◌else◌, ◌≡◌, Bool, List, ◌∷◌, ℕ, ◌+◌, ◌*◌, ◌≤◌, ◌<◌, eqb, length, get_or}
 use Rattle.rules.specs.declared.TokenKind.TheVariants as kind
 use Rattle.rules.specs.declared.Sort.TheVariants as sort
 use Rattle.rules.specs.declared.Scan.{Scan}
 use Rattle.rules.specs.declared.BlockInfo.{BlockInfo}
-use Rattle.rules.specs.Base.{if◌then◌else◌}
 use Rattle.rules.specs.Sheet.{token_of, here_at}
 use Rattle.rules.specs.Span.{sort_in, scan, unread}
 use Rattle.rules.specs.InlineBlock.{build_info}

@@ -1,4 +1,6 @@
 // The table of the second engine, read: the facts of a token in the form that the handlers take them.
+#![tactic(auto)]
+
 ghost use Rattle.std.specs.Prelude.{◌≡◌, ◌∷◌, ◌≤◌, ◌<◌};
 ghost use Rattle.rules.specs.declared.TokenKind.TheVariants as kind;
 ghost use Rattle.rules.specs.declared.Sort.TheVariants as sort;

@@ -14,7 +14,7 @@ use Rattle.rules.specs.declared.Part.TheVariants as part
 use Rattle.rules.specs.declared.Start.{Start}
 use Rattle.rules.specs.declared.Start.TheVariants as start
 use Rattle.rules.specs.declared.BlockInfo.{BlockInfo}
-use Rattle.rules.specs.Base.{if◌then◌else◌}
+use Rattle.std.specs.Prelude.{if◌then◌else◌}
 use Rattle.rules.specs.Sheet.{list_of}
 use Rattle.rules.specs.Tokens.{Token}
 use Rattle.rules.specs.InlineBlock.{is_top, is_newline, level_after, closes_at, start_after, span_after, measured, is_forbidden_token, forbid, build_from, unbuilt, build_info}

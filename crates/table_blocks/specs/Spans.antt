@@ -1,8 +1,7 @@
 -- The longest span of the top-level words before a cut, by depths and lengths that are counted from the first token on.
-use Rattle.std.specs.Prelude.{ℕ, zero, suc, ◌-◌}
+use Rattle.std.specs.Prelude.{if◌then◌else◌, ℕ, zero, suc, ◌-◌}
 use Rattle.rules.specs.declared.Start.{Start}
 use Rattle.rules.specs.declared.Start.TheVariants as start
-use Rattle.rules.specs.Base.{if◌then◌else◌}
 use Rattle.rules.specs.Tokens.{Token}
 use Rattle.rules.specs.InlineBlock.{is_top, start_after, span_after}
 use Rattle.table_blocks.specs.Sums.{part_at, depth, size}

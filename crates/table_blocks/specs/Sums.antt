@@ -1,7 +1,6 @@
 -- Tokens by their place: the depth before each, and what is counted up to each.
-use Rattle.std.specs.Prelude.{Bool, ℕ, zero, suc, ◌+◌, length}
+use Rattle.std.specs.Prelude.{if◌then◌else◌, Bool, ℕ, zero, suc, ◌+◌, length}
 use Rattle.rules.specs.declared.Part.{Part}
-use Rattle.rules.specs.Base.{if◌then◌else◌}
 use Rattle.rules.specs.Tokens.{Token}
 use Rattle.rules.specs.InlineBlock.{part_of, is_newline, level_after, is_forbidden_token}
 

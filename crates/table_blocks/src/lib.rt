@@ -1,7 +1,8 @@
 // The blocks of the table: the facts of every opening bracket, each token read once. First from the left the depth before each token, then from the
 // right the rows. Row d also says where the depth d goes on: the first top-level word of that depth, and the first close that leaves it.
-ghost use Rattle.std.specs.Prelude.{◌≡◌, true, ◌+◌, ◌*◌, ◌/◌, ◌%◌, ◌≤◌, ◌<◌, max, length as length_of};
-ghost use Rattle.rules.specs.Base.{if◌then◌else◌};
+#![tactic(auto)]
+
+ghost use Rattle.std.specs.Prelude.{if◌then◌else◌, ◌≡◌, true, ◌+◌, ◌*◌, ◌/◌, ◌%◌, ◌≤◌, ◌<◌, max, length as length_of};
 ghost use Rattle.rules.specs.Words.{token_at};
 ghost use Rattle.rules.specs.Sheet.{token_of};
 ghost use Rattle.rules.specs.InlineBlock.{part_of, is_top};
@@ -19,7 +20,7 @@ use rules::Part;
 use tokens::{kind_at, to_usize};
 
 // What is counted from a token on, and the first top-level word from it on.
-#[derive(Drop)]
+#[derive(Clone, Copy)]
 struct Counted {
     length: u32,
     newlines: u32,

@@ -1,4 +1,6 @@
 // The table of the second engine, filled: the facts of every token that reads ahead, as the plain engine's reading gives them there.
+#![tactic(auto)]
+
 ghost use Rattle.std.specs.Prelude.{◌≡◌, ◌*◌, ◌≤◌, length};
 ghost use Rattle.around.specs.Readable.{Readable};
 ghost use Rattle.table.specs.Table.{Filled};

@@ -10,7 +10,7 @@ use borrow.Author.Tests.{eq-eqb, ne_eqb, lt-ltb, le-ltb, eqb-true, eqb-false}
 use Rattle.rules.specs.declared.Sort.{Sort}
 use Rattle.rules.specs.declared.Sort.TheVariants as sort
 use Rattle.rules.specs.declared.Scan.{Scan}
-use Rattle.rules.specs.Base.{if◌then◌else◌}
+use Rattle.std.specs.Prelude.{if◌then◌else◌}
 use Rattle.rules.specs.Tokens.{Token}
 use Rattle.rules.specs.Span.{sort_in, stops_at, one_more, counted_in, scan}
 use Rattle.table_spans.specs.declared.Rest.{Rest}

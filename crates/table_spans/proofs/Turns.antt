@@ -10,7 +10,7 @@ use borrow.Author.Tests.{eqb-true, eqb-false}
 use Rattle.rules.specs.declared.TokenKind.TheVariants as kind
 use Rattle.rules.specs.declared.Sort.{Sort}
 use Rattle.rules.specs.declared.Sort.TheVariants as sort
-use Rattle.rules.specs.Base.{if◌then◌else◌}
+use Rattle.std.specs.Prelude.{if◌then◌else◌}
 use Rattle.rules.specs.Tokens.{Token}
 use Rattle.rules.specs.Sheet.{token_of, tokens_from, here_at}
 use Rattle.rules.specs.Span.{sort_in, scan, unread}

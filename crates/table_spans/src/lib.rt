@@ -1,4 +1,6 @@
 // The table's words of the top-level words: one pass from the last token to the first (docs/ahead.md).
+#![tactic(auto)]
+
 ghost use Rattle.std.specs.Prelude.{◌≡◌, ◌||◌, ◌+◌, ◌-◌, ◌*◌, ◌≤◌, ◌<◌, length};
 ghost use Rattle.around.specs.Readable.{Readable};
 ghost use Rattle.table.specs.Table.{Spans, SameBlocks};
@@ -13,7 +15,7 @@ use tokens::to_usize;
 
 // What the reading gives of the tokens from one on, started at their own level. Its arguments are the commas of that level, and one more where
 // `first` says that an argument, at any level, comes before them.
-#[derive(Drop)]
+#[derive(Clone, Copy)]
 pub struct Rest {
     pub full: u32,
     pub blocks: u32,
@@ -23,7 +25,7 @@ pub struct Rest {
 
 // The two cases: the open level is above 0, or it is 0. And of all these tokens the length, how many of them are arguments, and the index of the
 // bracket that closes their level, or n.
-#[derive(Drop)]
+#[derive(Clone, Copy)]
 pub struct Rests {
     pub inner: Rest,
     pub outer: Rest,

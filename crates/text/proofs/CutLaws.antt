@@ -8,7 +8,7 @@ use native.Mathlib.Nat.{le_of_lt, le-min, min-eq_left, min-eq_right, min-le_righ
 use native.Mathlib.Omega.{arith}
 use lib.ListN.{length, take, drop, set, get_or, length-set, length-append, length-take, take-append-drop, drop_of_length-le}
 use lib.Seq.{length-take-le, take_all, take-suc, take-append-le, drop-append-le, take-set-le, set_split, drop_at}
-use Rattle.rules.specs.Base.{if◌then◌else◌}
+use Rattle.std.specs.Prelude.{if◌then◌else◌}
 use Rattle.rules.specs.Text.{Text, fits, trim_cons, trim_end, cut}
 use Rattle.text.specs.declared.Text.{Text as Code}
 use Rattle.text.specs.Held.{text_of, Held, Laid, cut_to}

@@ -1,6 +1,5 @@
 -- What a lent buffer and the code's text stand for, and what they are for a text of the rules.
-use Rattle.std.specs.Prelude.{◌≡◌, Bool, true, false, List, ◌++◌, ℕ, ◌-◌, ◌≤◌, min, eqb, length, take, drop, replicate}
-use Rattle.rules.specs.Base.{if◌then◌else◌}
+use Rattle.std.specs.Prelude.{if◌then◌else◌, ◌≡◌, Bool, true, false, List, ◌++◌, ℕ, ◌-◌, ◌≤◌, min, eqb, length, take, drop, replicate}
 use Rattle.rules.specs.Text.{Text, fits, refused, is_blank, is_white}
 use Rattle.text.specs.declared.Text.{Text as Code}
 

@@ -3,6 +3,8 @@
 // refusal's number.
 // A refused text is handed on by every function here, so callers go straight on and look at the fault once.
 // A text is handed on field by field: as a whole it would be copied through memory.
+#![tactic(auto)]
+
 ghost use Rattle.std.specs.Prelude.{◌≡◌, ◌+◌, ◌-◌, ◌≤◌, ◌<◌, ◌∷◌, [], length, take, replicate, eqb};
 ghost use Rattle.rules.specs.Text.{last_or, indent_of, append, line_feed, fits, refuse as refused_with, cut, cut_blanks, cut_white, hold as holding, is_on, new_line, closing_line};
 ghost use Rattle.ascii.specs.Part.{part};
@@ -12,7 +14,7 @@ ghost use Rattle.text.specs.Held.{text_of, Held, Laid, cut_to, cut_bytes, held_w
 use ascii::{eight_blanks, is_blank, is_white};
 use rules::{Indent, Inline};
 
-#[derive(Drop)]
+#[derive(Clone, Copy)]
 pub struct Text {
     pub len: usize,
     pub floor: usize,

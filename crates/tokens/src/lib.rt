@@ -1,4 +1,6 @@
 // The sheet's words: packed words taken apart and built, and token records.
+#![tactic(auto)]
+
 ghost use Rattle.std.specs.Prelude.{◌≡◌, ◌+◌, ◌*◌, ◌≤◌, ◌<◌, length};
 ghost use Rattle.rules.specs.Tokens.{from_one};
 ghost use Rattle.rules.specs.Words.{word_at, place_at, kind_bits, class_bits, create_bit, upper_bits, packed_of, kind_of, key_of, tokens_at, token_at};

@@ -39,7 +39,8 @@ use Rattle.state.specs.Below.{Below}
 use Rattle.state.proofs.Below.{below_up, top_below, untop_below, top-level-below}
 use Rattle.state.specs.Of.{value_in, word_of, state_of, with_indentation, Known, Ready, env_in, here_in, Handled, given}
 use Rattle.state.proofs.Laws.{by-halves}
-use Rattle.rules.specs.Base.{if◌then◌else◌, when, full}
+use Rattle.rules.specs.Base.{when, full}
+use Rattle.std.specs.Prelude.{if◌then◌else◌}
 use Rattle.reserved.proofs.Laws.{when-below, when-words, level-words, full-words, written, word-is}
 use Rattle.top_level.specs.declared.Levels.{Levels}
 use Rattle.top_level.specs.Levels.{out_of, into_of, Turned}

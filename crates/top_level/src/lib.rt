@@ -1,5 +1,7 @@
 // The handlers of the words that start a level, in formatter.rs's order.
 // They differ in when the stacks shrink and grow: `levels_around` says it once for all three.
+#![tactic(auto)]
+
 ghost use Rattle.std.specs.Prelude.{◌≡◌, false, not, ◌&&◌, ◌<◌};
 ghost use Rattle.rules.specs.declared.Limit.TheVariants as limits;
 ghost use Rattle.rules.specs.Words.{token_at};

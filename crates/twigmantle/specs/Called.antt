@@ -1,7 +1,6 @@
 -- A layout call by what the checks found: with rows (true) or without, in a list of k words.
-use Rattle.std.specs.Prelude.{Bool, List, ℕ, replicate}
+use Rattle.std.specs.Prelude.{if◌then◌else◌, Bool, List, ℕ, replicate}
 use Rattle.rules.specs.declared.Checked.{Checked}
-use Rattle.rules.specs.Base.{if◌then◌else◌}
 use Rattle.rules.specs.Answer.{Answer, answer_as}
 use Rattle.rules.specs.Rows.{listed_as, list_as}
 

@@ -1,7 +1,8 @@
 // What the desk's host calls: any bytes, any buffer, any list.
-ghost use Rattle.std.specs.Prelude.{◌≡◌, true, false, ◌&&◌, ◌*◌, ◌≤◌, length, replicate};
+#![tactic(auto)]
+
+ghost use Rattle.std.specs.Prelude.{if◌then◌else◌, ◌≡◌, true, false, ◌&&◌, ◌*◌, ◌≤◌, length, replicate};
 ghost use Rattle.rules.specs.declared.Checked.TheVariants as found;
-ghost use Rattle.rules.specs.Base.{if◌then◌else◌};
 ghost use Rattle.rules.specs.Checks.{checked};
 ghost use Rattle.rules.specs.Sheet.{env_of, tokens_of};
 ghost use Rattle.rules.specs.Answer.{refusal, format, is_withdrawn, report_of, buffer_of, reported, buffer_after};
@@ -208,8 +209,7 @@ fn called(
 }
 
 // The layout call: the answer in numbers, and in the buffer the text and zero after it, or zero alone; a text that is laid out is faithful (demand 3).
-#[unsafe(no_mangle)]
-pub extern "C" fn twigmantle_layout(sheet: &[u8], text: &mut [u8]) -> Report
+pub fn twigmantle_layout(sheet: &[u8], text: &mut [u8]) -> Report
     ensures value { result ≡ reported sheet.now (length text.old) }
     ensures text_after { text.new ≡ buffer_after sheet.now (length text.old) }
     ensures faithful { Faithful sheet.now result text.new }
@@ -220,8 +220,7 @@ pub extern "C" fn twigmantle_layout(sheet: &[u8], text: &mut [u8]) -> Report
 }
 
 // The layout call with a list: five words for each placeholder that was laid out, and zero after them, or zero alone.
-#[unsafe(no_mangle)]
-pub extern "C" fn twigmantle_layout_rows(sheet: &[u8], text: &mut [u8], rows: &mut [u32]) -> Report
+pub fn twigmantle_layout_rows(sheet: &[u8], text: &mut [u8], rows: &mut [u32]) -> Report
     ensures value { result ≡ listed_report sheet.now (length text.old) (length rows.old) }
     ensures text_after { text.new ≡ listed_buffer sheet.now (length text.old) (length rows.old) }
     ensures rows_after { rows.new ≡ list_after sheet.now (length text.old) (length rows.old) }
@@ -233,8 +232,7 @@ pub extern "C" fn twigmantle_layout_rows(sheet: &[u8], text: &mut [u8], rows: &m
 }
 
 // The layout call that reads ahead once, into a table that is zero afterwards: the same answer, but for refusal 12.
-#[unsafe(no_mangle)]
-pub extern "C" fn twigmantle_layout_once(sheet: &[u8], text: &mut [u8], table: &mut [u32]) -> Report
+pub fn twigmantle_layout_once(sheet: &[u8], text: &mut [u8], table: &mut [u32]) -> Report
     ensures value { result ≡ report_of (once sheet.now (length text.old) (length table.old)) }
     ensures text_after { text.new ≡ buffer_of (length text.old) (once sheet.now (length text.old) (length table.old)) }
     ensures table_after { table.new ≡ replicate (length table.old) 0 }
@@ -245,8 +243,7 @@ pub extern "C" fn twigmantle_layout_once(sheet: &[u8], text: &mut [u8], table: &
 }
 
 // The same with a list.
-#[unsafe(no_mangle)]
-pub extern "C" fn twigmantle_layout_rows_once(
+pub fn twigmantle_layout_rows_once(
     sheet: &[u8],
     text: &mut [u8],
     rows: &mut [u32],
@@ -263,8 +260,7 @@ pub extern "C" fn twigmantle_layout_rows_once(
 }
 
 // The room call: how long a buffer is always enough for the sheet.
-#[unsafe(no_mangle)]
-pub extern "C" fn twigmantle_room(sheet: &[u8]) -> Outcome
+pub fn twigmantle_room(sheet: &[u8]) -> Outcome
     ensures value { result ≡ room_for sheet.now }
     ensures enough { Enough sheet.now result }
 {
@@ -286,8 +282,7 @@ fn not_written(out: &mut [u8], number: u32, place: usize) -> Outcome
 }
 
 // The compacting call: the sheet written anew with only the body bytes that some place covers, and zero after it, or zero alone.
-#[unsafe(no_mangle)]
-pub extern "C" fn twigmantle_compact(sheet: &[u8], out: &mut [u8]) -> Outcome
+pub fn twigmantle_compact(sheet: &[u8], out: &mut [u8]) -> Outcome
     ensures value { result ≡ outcome_of (compact_of sheet.now (length out.old)) }
     ensures out_after { out.new ≡ buffer_with (length out.old) (compact_of sheet.now (length out.old)) }
     ensures compacts { Compacts sheet.now result out.new }
@@ -304,8 +299,7 @@ pub extern "C" fn twigmantle_compact(sheet: &[u8], out: &mut [u8]) -> Outcome
 }
 
 // The mending call: every bad word and byte of the sheet made good where it lies, and a report of what changed.
-#[unsafe(no_mangle)]
-pub extern "C" fn twigmantle_mend(sheet: &mut [u8], report: &mut [u32]) -> Outcome
+pub fn twigmantle_mend(sheet: &mut [u8], report: &mut [u32]) -> Outcome
     ensures value { result ≡ mend_outcome (mend_of sheet.old (length report.old)) }
     ensures sheet_after { sheet.new ≡ sheet_after sheet.old (mend_of sheet.old (length report.old)) }
     ensures report_after { report.new ≡ report_after (length report.old) (mend_of sheet.old (length report.old)) }
@@ -315,8 +309,7 @@ pub extern "C" fn twigmantle_mend(sheet: &mut [u8], report: &mut [u32]) -> Outco
 }
 
 // The converting call: word 7 at 1, which layout refuses, becomes 2 where the sheet lies.
-#[unsafe(no_mangle)]
-pub extern "C" fn twigmantle_convert(sheet: &mut [u8]) -> Outcome
+pub fn twigmantle_convert(sheet: &mut [u8]) -> Outcome
     ensures value { result ≡ convert_outcome (convert_of sheet.old) }
     ensures sheet_after { sheet.new ≡ converted_sheet sheet.old (convert_of sheet.old) }
     ensures converts { Converts sheet.old result sheet.new }
@@ -325,8 +318,7 @@ pub extern "C" fn twigmantle_convert(sheet: &mut [u8]) -> Outcome
 }
 
 // The judging call: whether a text, laid out by any tool, is what is due of the sheet, white bytes taken out; if not, from which token on.
-#[unsafe(no_mangle)]
-pub extern "C" fn twigmantle_judge(sheet: &[u8], text: &[u8]) -> Judged
+pub fn twigmantle_judge(sheet: &[u8], text: &[u8]) -> Judged
     ensures value { result ≡ judged_of (judge_of sheet.now text.now) }
     ensures judges { Judges sheet.now text.now result }
 {
@@ -334,8 +326,7 @@ pub extern "C" fn twigmantle_judge(sheet: &[u8], text: &[u8]) -> Judged
 }
 
 // The default head: 48 bytes and zero after them; zero alone in a slice under 48.
-#[unsafe(no_mangle)]
-pub extern "C" fn twigmantle_default_head(out: &mut [u8]) -> usize
+pub fn twigmantle_default_head(out: &mut [u8]) -> usize
     ensures value { result ≡ head_returned (length out.old) }
     ensures out_after { out.new ≡ head_written default_head (length out.old) }
 {
@@ -343,8 +334,7 @@ pub extern "C" fn twigmantle_default_head(out: &mut [u8]) -> usize
 }
 
 // The same with the Rust's own defaults.
-#[unsafe(no_mangle)]
-pub extern "C" fn twigmantle_rust_head(out: &mut [u8]) -> usize
+pub fn twigmantle_rust_head(out: &mut [u8]) -> usize
     ensures value { result ≡ head_returned (length out.old) }
     ensures out_after { out.new ≡ head_written rust_head (length out.old) }
 {

@@ -9,7 +9,8 @@ use lib.Dec.{ltb}
 use lib.ListN.{length-map}
 use Rattle.rules.specs.declared.Index.{Index}
 use Rattle.rules.specs.declared.Index.TheVariants as index
-use Rattle.rules.specs.Base.{if◌then◌else◌, when, same, find, nth?, or_else}
+use Rattle.rules.specs.Base.{when, same, find, nth?, or_else}
+use Rattle.std.specs.Prelude.{if◌then◌else◌}
 use Rattle.rules.specs.Tokens.{Key, absent, named, zero_indexed, one_indexed, from_one, Token}
 use Rattle.rules.specs.Sheet.{Param, QueryParams, None, Indexed, Named}
 use Rattle.rules.specs.Params.{by_name, by_number, by_index, source, value_in, value_at, value_from, entry, get, advances, offends}

@@ -8,7 +8,7 @@ use lib.ListN.{length, take, drop}
 use lib.Seq.{take-append_seam, drop-append_seam}
 use Rattle.rules.specs.declared.Inline.{Inline}
 use Rattle.rules.specs.declared.Inline.TheVariants as inline
-use Rattle.rules.specs.Base.{if◌then◌else◌}
+use Rattle.std.specs.Prelude.{if◌then◌else◌}
 use Rattle.rules.specs.Text.{is_blank, is_white, trim_end, last_or, Text, fits, refused, append, line_feed, refuse, cut, cut_blanks, cut_white, hold, mark, bytes_in, new_line, closing_line}
 use Rattle.rules.specs.Due.{white}
 use Rattle.rules.proofs.Strip.{white-true, blank-white}

@@ -9,7 +9,8 @@ use lib.Dec.{eqb}
 use lib.ListN.{length, replicate}
 use Rattle.rules.specs.declared.Counts.{Counts}
 use Rattle.rules.specs.declared.Checked.TheVariants as found
-use Rattle.rules.specs.Base.{if◌then◌else◌, when, nth?}
+use Rattle.rules.specs.Base.{when, nth?}
+use Rattle.std.specs.Prelude.{if◌then◌else◌}
 use Rattle.rules.specs.Words.{word_at}
 use Rattle.rules.specs.Tokens.{Token}
 use Rattle.rules.specs.Checks.{checked}

@@ -1,4 +1,6 @@
 // Handlers that go by a token's value: signs, placeholders, and what has no rule of its own. They leave the stacks as they are, but for `;`, and then give the text alone.
+#![tactic(auto)]
+
 ghost use Rattle.std.specs.Prelude.{◌≡◌, false, ◌+◌, ◌≤◌};
 ghost use Rattle.rules.specs.Formatter.{format_no_change, format_with_spaces, format_with_space_after, format_without_spaces, format_comma, format_query_separator, format_placeholder, format_by_value, span_within};
 ghost use Rattle.indentation.specs.Of.{word_in, span_in, indentation_of, Clean};

@@ -1,4 +1,6 @@
 // A word of a sheet written over four bytes of a list.
+#![tactic(auto)]
+
 ghost use Rattle.std.specs.Prelude.{◌≡◌, ◌∷◌, [], ◌+◌, ◌≤◌, length};
 ghost use Rattle.rules.specs.Words.{word_bytes};
 ghost use Rattle.text.specs.Put.{put};

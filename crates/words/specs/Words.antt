@@ -1,7 +1,6 @@
 -- What one turn of a word or a comment appends, and what it is to write a list.
-use Rattle.std.specs.Prelude.{◌≡◌, List, [], ◌∷◌, ◌++◌, Bool, true, false, ◌&&◌, ℕ, zero, suc, ◌+◌, ltb, length}
+use Rattle.std.specs.Prelude.{if◌then◌else◌, ◌≡◌, List, [], ◌∷◌, ◌++◌, Bool, true, false, ◌&&◌, ℕ, zero, suc, ◌+◌, ltb, length}
 use Rattle.std.specs.Bool.{beq}
-use Rattle.rules.specs.Base.{if◌then◌else◌}
 use Rattle.rules.specs.Text.{is_blank, is_white}
 use Rattle.text.specs.Put.{put}
 use Rattle.words.specs.declared.Joined.{Joined}

@@ -1,4 +1,6 @@
 // Words as the text has them: in a case, with white joined to one blank, and a block comment with the present indent.
+#![tactic(auto)]
+
 ghost use Rattle.std.specs.Prelude.{◌≡◌, true, ◌&&◌, ◌∷◌, ◌+◌, ◌%◌, ◌≤◌, leb, length};
 ghost use Rattle.rules.specs.Text.{in_case, equalize_whitespace, indent_comment, indent_of, append};
 ghost use Rattle.ascii.specs.Part.{part};
