@@ -43,7 +43,7 @@ module _ (s : List ℕ) (base n : ℕ) (r : Readable s base n) where
   within-before i h z = readable_within r (omega arith)
 
   pub record-before : (i : ℕ) → i < n → (i ≡ 0 → ⊥) → tokens_at + 20 * (i - 1) + 20 ≤ length s
-  record-before i h z = (within-before i h z).record-in
+  record-before i h z = (within-before i h z).record_in
 
   pub record-back : (i j : ℕ) → i < n → j ≤ i → 0 < j → tokens_at + 20 * (j - 1) + 20 ≤ length s
   record-back i j h l p = readable_record r (omega arith)

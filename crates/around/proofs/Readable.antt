@@ -20,4 +20,4 @@ pub readable_within : {s : List ℕ} {base n i : ℕ} → Readable s base n → 
 readable_within {s} {base} {n} {i} h l = h.placed.within i l
 
 pub readable_record : {s : List ℕ} {base n i : ℕ} → Readable s base n → i < n → tokens_at + 20 * i + 20 ≤ length s
-readable_record h l = (readable_within h l).record-in
+readable_record h l = (readable_within h l).record_in

@@ -106,14 +106,14 @@ info l v st sp f z = record { length = l; level = v; start = st; top_level_token
 
 -- the facts of token j, of part p and l bytes long, after those of b
 pub record Next (p : Part) (l : ℕ) (b : BlockInfo) (v : ℕ) (st : Start) (sp : ℕ) (z : Bool) : Type 0 where
-  pub level-is : v ≡ level_after p b.level
+  pub level_is : v ≡ level_after p b.level
   pub start_is : st ≡ (if is_top p then start_after b.start b.level (b.length + l) else b.start)
-  pub span-is : sp ≡ (if is_top p then span_after b.start b.level (b.length + l) b.top_level_token_span else b.top_level_token_span)
-  pub reserved-is : z ≡ (b.has_reserved_tokens || is_newline p)
+  pub span_is : sp ≡ (if is_top p then span_after b.start b.level (b.length + l) b.top_level_token_span else b.top_level_token_span)
+  pub reserved_is : z ≡ (b.has_reserved_tokens || is_newline p)
 
 pub by_next : (p : Part) (l : ℕ) (b : BlockInfo) (v : ℕ) (st : Start) (sp : ℕ) (y z : Bool) → v ≡ level_after p b.level → st ≡ (if is_top p then start_after b.start b.level (b.length + l) else b.start)
     → sp ≡ (if is_top p then span_after b.start b.level (b.length + l) b.top_level_token_span else b.top_level_token_span) → y ≡ is_newline p → z ≡ (b.has_reserved_tokens || y) → Next p l b v st sp z
-by_next p l b v st sp y z e f g h k = record { level-is = e; start_is = f; span-is = g; reserved-is = rw h at k }
+by_next p l b v st sp y z e f g h k = record { level_is = e; start_is = f; span_is = g; reserved_is = rw h at k }
 
 -- they make it measured
 measured-from : (p : Part) (l : ℕ) (b : BlockInfo) (v : ℕ) (st : Start) (sp : ℕ) (z : Bool) → Next p l b v st sp z
@@ -126,7 +126,7 @@ measured-from : (p : Part) (l : ℕ) (b : BlockInfo) (v : ℕ) (st : Start) (sp 
       has_reserved_tokens = z;
     }
     ≡ measured_in p l b
-measured-from p l b v st sp z e = rw (e.level-is, e.start_is, e.span-is, e.reserved-is)
+measured-from p l b v st sp z e = rw (e.level_is, e.start_is, e.span_is, e.reserved_is)
 
 module _ (s : List ℕ) (base n i : ℕ) (b : BlockInfo) (j : ℕ) (r : Measuring s base n i b j) where
   pub length-room : (l : ℕ) → Readable s base n → j < n → l ≡ length (token_of s base j).value → b.length + l < 4294967296
@@ -158,19 +158,19 @@ module _ (s : List ℕ) (base n i : ℕ) (b : BlockInfo) (j : ℕ) (r : Measurin
     part-here : p ≡ part_of (token_of s base j).kind
     part-here = part-as s j k p kind-is part-is
 
-    next-is : next ≡ measured_in p l b
+    next_is : next ≡ measured_in p l b
     unfolding next
-    next-is = measured-from p l b v st sp z facts
+    next_is = measured-from p l b v st sp z facts
 
     next-measured : next ≡ measured (token_of s base j) b
-    next-measured = next-is ∙ rw (len_is, part-here)
+    next-measured = next_is ∙ rw (len_is, part-here)
 
     closes_as : closes_at (part_of (token_of s base j).kind) (measured (token_of s base j) b).level ≡ x
     unfolding next
     closes_as =
         sym
         (closes-is
-        ∙ ap (λ (c : BlockInfo). closes_at p c.level) next-is
+        ∙ ap (λ (c : BlockInfo). closes_at p c.level) next_is
         ∙ ap (λ (q : Part). closes_at q (level_after q b.level)) part-here)
 
     pub measuring_closes : x ≡ true
@@ -187,15 +187,15 @@ module _ (s : List ℕ) (base n i : ℕ) (b : BlockInfo) (j : ℕ) (r : Measurin
     measuring_closes d = next-measured ∙ sym (build_stop (token_of s base j) (tokens_from s base (j + 1) (n - (j + 1))) b (closes_as ∙ d)) ∙ left
 
     next-forbids : (f : Bool) → x ≡ false → f ≡ is_forbidden_token (token_of s base j) → Readable s base n → Measuring s base n i (forbid f next) (j + 1)
-    next-forbids f d forbidden-is q =
+    next-forbids f d forbidden_is q =
         let o = r.past in
         let e : j + 1 - i ≡ j - i + 1 = omega arith in
         record {
           past = omega arith;
           up_to = omega arith;
-          small = rw (e, next-is) (grows (j - i) l p f b r.small (readable_length s base n j l q h len_is));
+          small = rw (e, next_is) (grows (j - i) l p f b r.small (readable_length s base n j l q h len_is));
           same_end =
-              ap (build_from (tokens_from s base (j + 1) (n - (j + 1)))) (rw (forbidden-is, next-measured))
+              ap (build_from (tokens_from s base (j + 1) (n - (j + 1)))) (rw (forbidden_is, next-measured))
               ∙ sym (build_go (token_of s base j) (tokens_from s base (j + 1) (n - (j + 1))) b (closes_as ∙ d)) ∙ left;
         }
 
@@ -211,7 +211,7 @@ module _ (s : List ℕ) (base n i : ℕ) (b : BlockInfo) (j : ℕ) (r : Measurin
         })
         (j + 1)
     unfolding next
-    measuring_turns f g q d forbidden-is forbid-is = rw forbid-is (next-forbids f d forbidden-is q)
+    measuring_turns f g q d forbidden_is forbid-is = rw forbid-is (next-forbids f d forbidden_is q)
 
 -- ---- a token that changes the length alone
 
@@ -224,7 +224,7 @@ rest-is part.Comment h = absurd (let z : ◌≡◌ {A = ℕ} 0 1 = cc in omega a
 rest-is part.Rest h = refl
 
 rest-next : (p : Part) (l : ℕ) (b : BlockInfo) → p ≡ part.Rest → Next p l b b.level b.start b.top_level_token_span b.has_reserved_tokens
-rest-next p l b e = rw e (record { level-is = refl; start_is = refl; span-is = refl; reserved-is = sym (or-false b.has_reserved_tokens) })
+rest-next p l b e = rw e (record { level_is = refl; start_is = refl; span_is = refl; reserved_is = sym (or-false b.has_reserved_tokens) })
 
 -- only its value can forbid the block
 rest-forbids : (t : Token) (f : Bool) → part_of t.kind ≡ part.Rest → f ≡ same t.value (59 ∷ []) → f ≡ is_forbidden_token t

@@ -130,8 +130,8 @@ module _ (s : List ℕ) (x : Context) (i : ℕ) (st : Code) (d : List ℕ) (read
   unfolding state_of on_words
   full_is = refl
 
-  level-is : (folded : Bool) → indent_level false (increase_block_level folded (on_words name stacks)) ≡ indent_level false (increase_block_level folded stacks)
-  level-is folded = rw (← block_words name folded stacks) (level-words name false (increase_block_level folded stacks))
+  level_is : (folded : Bool) → indent_level false (increase_block_level folded (on_words name stacks)) ≡ indent_level false (increase_block_level folded stacks)
+  level_is folded = rw (← block_words name folded stacks) (level-words name false (increase_block_level folded stacks))
 
   opening-rule : (info : BlockInfo) (inlined folded : Bool) (level : ℕ)
       → inlined ≡ begins_inline x.options info blocks
@@ -147,7 +147,7 @@ module _ (s : List ℕ) (x : Context) (i : ℕ) (st : Code) (d : List ℕ) (read
       }
   unfolding opening state_of env_of
   opening-rule info inlined folded level en ef el =
-      rw (el, ← level-is folded, block_words name folded stacks, bracket_is s x (length d) i ready.known, ← full_is, add-one st.block_level, ef, folded-is inlined, en, ready.known.options)
+      rw (el, ← level_is folded, block_words name folded stacks, bracket_is s x (length d) i ready.known, ← full_is, add-one st.block_level, ef, folded-is inlined, en, ready.known.options)
       (halves.opening (env_in s x (length d)) (here_in s x i) now info)
 
   -- 6 is not given where a block begins, so the indent stack has room; and no more inline blocks are open than it has entries

@@ -169,7 +169,7 @@ module _ (s : List ℕ) (base bytes : ℕ) (long : length s ≡ base + bytes) wh
       let t = (both_hold (in_body (place_at s (at + 4)) bytes) (key_in_body class k bytes) (at + 4) (at + 12) Nowhere h).0 in
       let e : at + 12 + 4 ≡ at + 16 = omega arith in
       record {
-        record-in = l;
+        record_in = l;
         value_in = inside (place_at s (at + 4)) t.0;
         name_in = λ p g.
             let n = named-key class (word_at s (at + 12)) (word_at s (at + 16)) p g in

@@ -33,10 +33,10 @@ past refusal Nowhere later c never h = (refl, h)
 
 -- the four checks find nothing
 record Passed (s : List ℕ) (c : Counts) : Type 0 where
-  pub sizes-found : sizes s ≡ Nowhere
-  pub words-pass : words s c ≡ Nowhere
-  pub places-pass : places s c ≡ Nowhere
-  pub bytes-pass : body_bytes s c ≡ Nowhere
+  pub sizes_found : sizes s ≡ Nowhere
+  pub words_pass : words s c ≡ Nowhere
+  pub places_pass : places s c ≡ Nowhere
+  pub bytes_pass : body_bytes s c ≡ Nowhere
 
 passed : (s : List ℕ) (c : Counts) → checked s ≡ Sound c → Passed s (counts_of s) × (counts_of s ≡ c)
 unfolding checked checked_as is_sound
@@ -48,7 +48,7 @@ passed s c h =
     let h2 = past Word (words s k) t2 c (λ p. refl) h1.1 in
     let h3 = past Place (places s k) t3 c (λ p. refl) h2.1 in
     let h4 = past Byte (body_bytes s k) (Sound k) c (λ p. refl) h3.1 in
-    (record { sizes-found = h1.0; words-pass = h2.0; places-pass = h3.0; bytes-pass = h4.0 }, cc)
+    (record { sizes_found = h1.0; words_pass = h2.0; places_pass = h3.0; bytes_pass = h4.0 }, cc)
 
 -- check 1 finds nothing
 pub sizes-pass : (s : List ℕ) → sizes s ≡ Nowhere → Sized s (counts_of s)
@@ -69,7 +69,7 @@ module _ (s : List ℕ) (h : Passed s (counts_of s)) where
   sheeted =
       let k = counts_of s in
       let base = body_at k in
-      let size = sizes-pass s h.sizes-found in
+      let size = sizes-pass s h.sizes_found in
       let few = size.few in
       let long = size.long in
       let tw = first_of (token_words s) 20 tokens_at k.tokens in
@@ -77,9 +77,9 @@ module _ (s : List ℕ) (h : Passed s (counts_of s)) where
       let tp = first_of (token_places s k.bytes) 20 tokens_at k.tokens in
       let pp = first_of (param_places s k.bytes) 16 (params_at k) k.params in
       let kp = first_of (keep_places s k.bytes) 8 (keeps_at k) k.keeps in
-      let head = or_neither (head_words s) (or_later tw pw) h.words-pass in
+      let head = or_neither (head_words s) (or_later tw pw) h.words_pass in
       let ws = or_neither tw pw head.1 in
-      let ps = or_neither tp (or_later pp kp) h.places-pass in
+      let ps = or_neither tp (or_later pp kp) h.places_pass in
       let qs = or_neither pp kp ps.1 in
       record {
         counted = refl;
@@ -98,7 +98,7 @@ module _ (s : List ℕ) (h : Passed s (counts_of s)) where
               let at = params_at k + 16 * i in
               let t = param-inside s base k.bytes long at (none_of (param_places s k.bytes) 16 (params_at k) k.params qs.0 i l) in
               record {
-                record-in = omega arith;
+                record_in = omega arith;
                 name_in = t.0;
                 value_in = t.1;
                 nameless = nameless s at (none_of (param_words s) 16 (params_at k) k.params ws.1 i l);
@@ -107,11 +107,11 @@ module _ (s : List ℕ) (h : Passed s (counts_of s)) where
         keeps = record {
           few = few.keeps;
           within = λ i l. record {
-            record-in = omega arith;
+            record_in = omega arith;
             place_in = keep-inside s base k.bytes long (keeps_at k + 8 * i) (none_of (keep_places s k.bytes) 8 (keeps_at k) k.keeps qs.1 i l);
           };
         };
-        ascii = none-ascii s base k.bytes h.bytes-pass;
+        ascii = none-ascii s base k.bytes h.bytes_pass;
       }
 
 -- what `check` calls sound meets what the readers ask

@@ -19,7 +19,7 @@ use Rattle.query.proofs.Halves as halves
 use Rattle.state.specs.declared.State.{State as Code}
 use Rattle.state.specs.declared.Context.{Context}
 use Rattle.state.specs.Of.{value_in, state_of, with_text, Ready, env_in, here_in, Handled}
-use Rattle.state.proofs.Laws.{by_value, level-is}
+use Rattle.state.proofs.Laws.{by_value, level_is}
 
 -- ---- a test that stops at its first half
 
@@ -44,7 +44,7 @@ module _ (s : List ℕ) (x : Context) (i : ℕ) (st : Code) (d : List ℕ) (read
 
   module _ (level : ℕ) (l : level ≡ indent_level false (indentation_of st.indentation)) where
     level-now : level ≡ indent_level false now.indentation
-    level-now = l ∙ sym (level-is s x.base st d false)
+    level-now = l ∙ sym (level_is s x.base st d false)
 
     pub by-line-comment : (breaks comma : Bool) → breaks ≡ (after_line_feed (here_in s x i) && white_then_no_operator (here_in s x i)) → comma ≡ two_after_comma (here_in s x i)
         → Laid (length d) (Query.line_comment (length d) x.options level breaks comma (bytes s v.start v.len) (text_of st.text d)) t q → r ≡ with_text st t → Handled s x i format_line_comment st d r q

@@ -43,12 +43,12 @@ module _ (s : List ℕ) (c : Counts) (at : ℕ) where
 -- ---- each place
 
 pub record PlaceIn (s : List ℕ) (c : Counts) (at : ℕ) : Type 0 where
-  pub record-in : at + 8 ≤ body_at c
+  pub record_in : at + 8 ≤ body_at c
   pub inside : (place_at s at).start + (place_at s at).len ≤ c.bytes
 
 module _ (s : List ℕ) (c : Counts) (h : Sheeted s c) where
   in-bodies : (at : ℕ) → at + 8 ≤ body_at c → Inside s (body_at c) (place_at s at) → PlaceIn s c at
-  in-bodies at l i = let n = h.long in let m = i.inside in record { record-in = l; inside = omega arith }
+  in-bodies at l i = let n = h.long in let m = i.inside in record { record_in = l; inside = omega arith }
 
   module _ (at : ℕ) where
     -- token i
@@ -89,8 +89,8 @@ module _ (s : List ℕ) (c : Counts) (h : Sheeted s c) where
     keep-in : (i : ℕ) → i < c.keeps → at ≡ keeps_at c + 8 * i → PlaceIn s c at
     keep-in i l e = in-bodies at (omega arith) (rw e (h.keeps.within i l).place_in)
 
-    record-in : params_at c ≤ at → at < body_at c → (at - params_at c) % 8 ≡ 0 → PlaceIn s c at
-    record-in m n e = by-test (ltb at (keeps_at c)) refl (eqb ((at - params_at c) % 16) 0) refl
+    record_in : params_at c ≤ at → at < body_at c → (at - params_at c) % 8 ≡ 0 → PlaceIn s c at
+    record_in m n e = by-test (ltb at (keeps_at c)) refl (eqb ((at - params_at c) % 16) 0) refl
       where
         by-test : (x : Bool) → ltb at (keeps_at c) ≡ x → (y : Bool) → eqb ((at - params_at c) % 16) 0 ≡ y → PlaceIn s c at
         by-test true p true q =
@@ -110,7 +110,7 @@ module _ (s : List ℕ) (c : Counts) (h : Sheeted s c) where
             → (if x then false else if y then starts_in_token s at ((at - 48) % 20) else eqb ((at - params_at c) % 8) 0) ≡ true → PlaceIn s c at
         by-test true p y q o = let z : ◌≡◌ {A = ℕ} 0 1 = cc in absurd (omega arith)
         by-test false p true q o = token-in (ltb-false at 48 p) (ltb-true at (params_at c) q) o
-        by-test false p false q o = record-in (ltb-false at (params_at c) q) l (eqb-true ((at - params_at c) % 8) 0 o)
+        by-test false p false q o = record_in (ltb-false at (params_at c) q) l (eqb-true ((at - params_at c) % 8) 0 o)
 
   pub place_in : (k : ℕ) → k < word_count c → starts_place s c (4 * k) ≡ true → PlaceIn s c (4 * k)
   place_in k l t = place_at_in (4 * k) (omega arith) t

@@ -118,8 +118,8 @@ module _ (s : List ℕ) (c : Counts) (h : Sheeted s c) where
         if-fits (word_at s 16) 2 true (eqb (word_at t (at + 4)) 0) (λ z. refl) (λ z. eq-eqb (word_at t (at + 4)) 0 (ap (λ (p : Place). p.len) (nameless-so i l z))),
       )
 
-  words-pass : words (compacted s c) (new_counts s c) ≡ Nowhere
-  words-pass =
+  words_pass : words (compacted s c) (new_counts s c) ≡ Nowhere
+  words_pass =
       rw (head-pass, none_first (token_words (compacted s c)) 20 tokens_at c.tokens token-words-pass)
       (none_first (param_words (compacted s c)) 16 (params_at c) c.params param-words-pass)
 
@@ -148,8 +148,8 @@ module _ (s : List ℕ) (c : Counts) (h : Sheeted s c) where
   unfolding keep_places
   keep-places-pass i l = rw (record-pass (2 * c.params + i) (keeps_at c + 8 * i) (omega arith) (omega arith))
 
-  places-pass : places (compacted s c) (new_counts s c) ≡ Nowhere
-  places-pass =
+  places_pass : places (compacted s c) (new_counts s c) ≡ Nowhere
+  places_pass =
       let t = compacted s c in
       let k = kept_before s c c.bytes in
       rw (none_first (token_places t k) 20 tokens_at c.tokens token-places-pass, none_first (param_places t k) 16 (params_at c) c.params param-places-pass)
@@ -166,14 +166,14 @@ module _ (s : List ℕ) (c : Counts) (h : Sheeted s c) where
       let o : body_at c + 1 * j ≡ body_at c + j = omega arith in
       rw (o, byte-new s c (long s c h) j, lt-ltb (get_or (kept_bytes s c c.bytes) j 0) 128 (kept-ascii j l))
 
-  bytes-pass : body_bytes (compacted s c) (new_counts s c) ≡ Nowhere
-  bytes-pass = none_first (body_byte (compacted s c)) 1 (body_at c) (kept_before s c c.bytes) byte-pass
+  bytes_pass : body_bytes (compacted s c) (new_counts s c) ≡ Nowhere
+  bytes_pass = none_first (body_byte (compacted s c)) 1 (body_at c) (kept_before s c c.bytes) byte-pass
 
   -- ---- all
 
   checked-so : checked_as (compacted s c) (new_counts s c) ≡ found.Sound (new_counts s c)
   unfolding checked_as
-  checked-so = rw (words-pass, places-pass, bytes-pass)
+  checked-so = rw (words_pass, places_pass, bytes_pass)
 
   pub new-sound : checked (compacted s c) ≡ found.Sound (new_counts s c)
   unfolding checked

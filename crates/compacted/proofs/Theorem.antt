@@ -46,7 +46,7 @@ same-sheet s c e =
     record {
       sound = rw n ht;
       answers = same_answer s t c k e ht ts es ws;
-      listed-so = same-listed s t c k e ht ts es ws;
+      listed_so = same-listed s t c k e ht ts es ws;
       lists = same-list s t c k e ht ts es ws;
       again = rw n (compacted-again s c h);
       covered = rw n (all-covered s c h);

@@ -14,7 +14,7 @@ use Rattle.compacted.proofs.Call.{call_written}
 use Rattle.rules.specs.Answer.{is_withdrawn}
 use Rattle.converted.specs.Converted.{converted, refusal, convert_as, convert, convert_outcome, sheet_after}
 use Rattle.converted.specs.Converts.{Converts, Stored}
-use Rattle.converted.proofs.Laws.{alike, not-withdrawn, other-kept, becomes-two, not-one}
+use Rattle.converted.proofs.Laws.{alike, not-withdrawn, other-kept, becomes-two, not_one}
 use Rattle.converted.proofs.Theorem.{still-sound, converted-again, commutes, stored-sheet}
 
 -- ---- the converting call
@@ -28,7 +28,7 @@ module _ (s : List ℕ) where
         longs = a.longs;
         sound = λ k e. (refl, still-sound s k e);
         becomes = λ z w. becomes-two s w;
-        not-one = λ z. not-one s;
+        not_one = λ z. not_one s;
         stays = λ n. not-withdrawn s (other-kept s n);
         again = λ z. converted-again s c h;
         commutes = λ k e. commutes s k e;
@@ -44,7 +44,7 @@ module _ (s : List ℕ) where
         longs = refl;
         sound = λ c h. absurd (never c h);
         becomes = λ e w. absurd (z e);
-        not-one = λ e. absurd (z e);
+        not_one = λ e. absurd (z e);
         stays = λ w. refl;
         again = λ e. absurd (z e);
         commutes = λ c h. absurd (never c h);

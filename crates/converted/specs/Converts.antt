@@ -17,7 +17,7 @@ pub record Converts (s : List ℕ) (r : Outcome) (t : List ℕ) : Type 0 where
   pub sound : (c : Counts) → checked s ≡ found.Sound c → (r.refusal ≡ 0) × (checked t ≡ found.Sound c)
   -- where nothing is refused, 1 becomes 2, and every other word 7 stays; so it is not 1
   pub becomes : r.refusal ≡ 0 → word_at s 28 ≡ 1 → word_at t 28 ≡ 2
-  pub not-one : r.refusal ≡ 0 → word_at t 28 ≡ 1 → ⊥
+  pub not_one : r.refusal ≡ 0 → word_at t 28 ≡ 1 → ⊥
   pub stays : (word_at s 28 ≡ 1 → ⊥) → t ≡ s
   -- converting the new sheet changes nothing
   pub again : r.refusal ≡ 0 → convert t ≡ converts t 0

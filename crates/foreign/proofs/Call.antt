@@ -154,7 +154,7 @@ Given n = any_of (eqb n) (0 ∷ 1 ∷ 2 ∷ 3 ∷ 4 ∷ 5 ∷ 15 ∷ []) ≡ tru
 
 judges_refused : (s text : List ℕ) (n p : ℕ) → (n ≡ 0 → ⊥) → Given n → Judges s text (judged_of (Verdict.Refused n p))
 unfolding judged_of
-judges_refused s text n p k g = record { sound = λ z. absurd (k z); yes_due = λ z. absurd (k z); due-yes = λ z. absurd (k z); no-at = λ z. absurd (k z); given = g; refused = λ z. (refl, refl) }
+judges_refused s text n p k g = record { sound = λ z. absurd (k z); yes_due = λ z. absurd (k z); due_yes = λ z. absurd (k z); no_at = λ z. absurd (k z); given = g; refused = λ z. (refl, refl) }
 
 -- ---- the tokens of a sheet
 
@@ -259,8 +259,8 @@ module _ (s : List ℕ) (c : Counts) (text : List ℕ) where
       record {
         sound = λ z. h ∙ ap (λ (x : Counts). found.Sound x) (sound-sheeted s c h).counted;
         yes_due = λ z m. k ∙ sym (due-is h);
-        due-yes = λ z d. refl;
-        no-at = λ z n. absurd (n refl);
+        due_yes = λ z d. refl;
+        no_at = λ z n. absurd (n refl);
         given = refl;
         refused = λ z. absurd (z refl);
       }
@@ -268,8 +268,8 @@ module _ (s : List ℕ) (c : Counts) (text : List ℕ) where
       record {
         sound = λ z. h ∙ ap (λ (x : Counts). found.Sound x) (sound-sheeted s c h).counted;
         yes_due = λ z m. absurd (omega arith);
-        due-yes = λ z d. absurd (k.1 (d ∙ due-is h));
-        no-at = λ z n. subst (λ (x : Counts). NoAt s x text i) (sound-sheeted s c h).counted k.0;
+        due_yes = λ z d. absurd (k.1 (d ∙ due-is h));
+        no_at = λ z n. subst (λ (x : Counts). NoAt s x text i) (sound-sheeted s c h).counted k.0;
         given = refl;
         refused = λ z. absurd (z refl);
       }

@@ -91,7 +91,7 @@ cased-uncounted (Indexed vs) v before = refl
 
 -- xs is kept of a token that shows v, with the counter i after it; b: it is barred
 pub record Taken (e : Env) (before xs : List Piece) (v : List ℕ) (i : ℕ) (b : Bool) : Type 0 where
-  pub due-of : due_by e before xs ≡ strip v
+  pub due_of : due_by e before xs ≡ strip v
   pub counted : i ≡ counter e.params (onto xs before)
   pub barring : any_of (barred e.params) xs ≡ b
 
@@ -104,21 +104,21 @@ module _ (e : Env) (before : List Piece) (t : Token) where
 
   kept-none : Taken e before [] [] here false
   unfolding due_from
-  kept-none = record { due-of = refl; counted = refl; barring = refl }
+  kept-none = record { due_of = refl; counted = refl; barring = refl }
 
   kept-own : (v : List ℕ) → Taken e before (own v ∷ []) v here false
   unfolding due_from barred
-  kept-own v = record { due-of = append-nil (strip v); counted = own-uncounted e.params v before; barring = refl }
+  kept-own v = record { due_of = append-nil (strip v); counted = own-uncounted e.params v before; barring = refl }
 
   kept-cased : (v : List ℕ) → Taken e before (cased v ∷ []) (format_reserved_word e v) here false
   unfolding due_from barred
-  kept-cased v = record { due-of = rw (append-nil (strip (in_asked_case e.keep e.options.casing v)), word-is e v); counted = cased-uncounted e.params v before; barring = refl }
+  kept-cased v = record { due_of = rw (append-nil (strip (in_asked_case e.keep e.options.casing v)), word-is e v); counted = cased-uncounted e.params v before; barring = refl }
 
   kept-filled : (k : Key) (v : List ℕ) → Taken e before (filled k v ∷ []) (get e.params k here v) (when (advances e.params k) suc here) (offends e.params k)
   unfolding due_from barred
   kept-filled k v =
       record {
-        due-of = rw (append-nil (strip (or_else v (entry_of e.params k (count_next before)))), filled_is e.params k here v, entry-count e.params k before);
+        due_of = rw (append-nil (strip (or_else v (entry_of e.params k (count_next before)))), filled_is e.params k here v, entry-count e.params k before);
         counted = filled-counted e.params k v before;
         barring = or-false (offends e.params k);
       }
@@ -245,7 +245,7 @@ module _ (e : Env) (all : List Token) (text : List ℕ) where
       let taken = taken-so e past t w.enabled w.drop_next in
       let onward : List Piece = onto (kept_with w t) past in
       let at-t : (us : List Token) → due e.params e.keep e.options.casing (done ++ (t ∷ us)) ≡ d ++ (v ++ due_by e onward (kept_after (on_with w t) us)) =
-      λ us. is-due (t ∷ us) ∙ rw (kept_step w.enabled w.drop_next t us, due-append e past (kept_with w t) (kept_after (on_with w t) us), taken.due-of) in
+      λ us. is-due (t ∷ us) ∙ rw (kept_step w.enabled w.drop_next t us, due-append e past (kept_with w t) (kept_after (on_with w t) us), taken.due_of) in
       rw (lacks-here done ts onward (on_with w t) d rest t v split have at-t, taken.counted)
       (go v onward at-t (begins v rest) refl
       (λ m f. rw (length-on done t) at (walk_from (done ++ (t ∷ [])) ts onward (on_with w t) (d ++ v) (drop (length v) rest) (split ∙ sym (append_assoc done (t ∷ []) ts)) m f)))

@@ -47,9 +47,9 @@ pub record Judges (s text : List ℕ) (r : Judged) : Type 0 where
   pub sound : r.refusal ≡ 0 → checked s ≡ found.Sound (counts_of s)
   -- it says yes exactly if the text, white bytes taken out, is what is due
   pub yes_due : r.refusal ≡ 0 → r.matches ≡ 1 → strip text ≡ due_of s
-  pub due-yes : r.refusal ≡ 0 → strip text ≡ due_of s → r.matches ≡ 1
+  pub due_yes : r.refusal ≡ 0 → strip text ≡ due_of s → r.matches ≡ 1
   -- else the token is the first kept one whose bytes aren't matched, or the token count
-  pub no-at : r.refusal ≡ 0 → (r.matches ≡ 1 → ⊥) → NoAt s (counts_of s) text r.token
+  pub no_at : r.refusal ≡ 0 → (r.matches ≡ 1 → ⊥) → NoAt s (counts_of s) text r.token
   -- no other refusal is given, and a refusal says nothing of the text
   pub given : any_of (eqb r.refusal) (0 ∷ 1 ∷ 2 ∷ 3 ∷ 4 ∷ 5 ∷ 15 ∷ []) ≡ true
   pub refused : (r.refusal ≡ 0 → ⊥) → (r.matches ≡ 0) × (r.token ≡ 0)

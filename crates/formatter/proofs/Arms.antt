@@ -221,21 +221,21 @@ module _ (s : List ℕ) (x : Context) (i : ℕ) (st : Code) (d : List ℕ) (read
       laid = by-laid-out t r q (laid_out t k (separates s x i) (sym eb ∙ more))
 
       module _ (len : ℕ) (sp : SpanInfo) (el : len ≡ cur_len (inline_block_of st.inline_block)) (es : sp ≡ top_level_tokens_info x.options st.block_level len (here_in s x i).after) where
-        span-is : sp ≡ span_info (env_in s x (length d)) (here_in s x i) (state_of s x.base st d)
+        span_is : sp ≡ span_info (env_in s x (length d)) (here_in s x i) (state_of s x.base st d)
         unfolding span_info env_of state_of
-        span-is = es ∙ rw (el, ready.known.options)
+        span_is = es ∙ rw (el, ready.known.options)
 
         pub by-top-level : k ≡ kind.ReservedTopLevel → Handled s x i (given format_top_level_reserved_word sp) st d r q → Handled s x i (taken_as t) st d r q
         unfolding format_token
-        by-top-level e h = laid (by-given kind.ReservedTopLevel format_top_level_reserved_word span_info sp r q e (λ v w u. refl) span-is h)
+        by-top-level e h = laid (by-given kind.ReservedTopLevel format_top_level_reserved_word span_info sp r q e (λ v w u. refl) span_is h)
 
         pub by-no-indent : k ≡ kind.ReservedTopLevelNoIndent → Handled s x i (given format_top_level_reserved_word_no_indent sp) st d r q → Handled s x i (taken_as t) st d r q
         unfolding format_token
-        by-no-indent e h = laid (by-given kind.ReservedTopLevelNoIndent format_top_level_reserved_word_no_indent span_info sp r q e (λ v w u. refl) span-is h)
+        by-no-indent e h = laid (by-given kind.ReservedTopLevelNoIndent format_top_level_reserved_word_no_indent span_info sp r q e (λ v w u. refl) span_is h)
 
         pub by-newline-after : k ≡ kind.ReservedNewlineAfter → Handled s x i (given format_newline_after_reserved_word sp) st d r q → Handled s x i (taken_as t) st d r q
         unfolding format_token
-        by-newline-after e h = laid (by-given kind.ReservedNewlineAfter format_newline_after_reserved_word span_info sp r q e (λ v w u. refl) span-is h)
+        by-newline-after e h = laid (by-given kind.ReservedNewlineAfter format_newline_after_reserved_word span_info sp r q e (λ v w u. refl) span_is h)
 
       pub by-newline : k ≡ kind.ReservedNewline → Handled s x i format_newline_reserved_word st d r q → Handled s x i (taken_as t) st d r q
       unfolding format_token

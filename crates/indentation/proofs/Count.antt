@@ -82,4 +82,4 @@ level-right i cs s p =
     let r = reached-stands no_indentation i cs s p in
     let own = r.clean.counted in
     let rules = own ∙ ap (λ (d : Indentation ℕ). unfolded d.indent_types) r.is in
-    record { stands = r; own = own; rules = rules; kept-so = rules ∙ sym (kept-right ℕ (operations cs)) }
+    record { stands = r; own = own; rules = rules; kept_so = rules ∙ sym (kept-right ℕ (operations cs)) }

@@ -88,7 +88,7 @@ pub record Counted (os : List (Operation ℕ)) (r : Code) : Type 0 where
   pub stands : Stands (run os no_indentation) r
   pub own : r.level ≡ unfolded (types_of r)
   pub rules : r.level ≡ unfolded (run os no_indentation).indent_types
-  pub kept-so : r.level ≡ kept os no_indentation 0
+  pub kept_so : r.level ≡ kept os no_indentation 0
 
 -- of the code: so it is after any calls on what `new` gives
 abbrev pub LevelRight : Type 0

@@ -20,7 +20,7 @@ use Rattle.keeps.specs.CaseOf.{case_of}
 
 module _ (s : List ℕ) (c : Counts) (i : ℕ) (h : i < c.keeps) (sheeted : Sheeted s c) where
   pub keep-record : keeps_at c + 8 * i + 8 ≤ length s
-  keep-record = (sheeted.keeps.within i h).record-in
+  keep-record = (sheeted.keeps.within i h).record_in
 
   pub keep-inside : (base : ℕ) (q : Place) → base ≡ body_at c → q ≡ place_at s (keeps_at c + 8 * i) → Inside s base q
   keep-inside base q eb eq = rw (eb, eq) (sheeted.keeps.within i h).place_in

@@ -83,8 +83,8 @@ module _ (at top best c h : ℕ) (w : List ℕ) (l : length w ≡ 16) (u : at �
   told : Split (at % 8 + 120) (at % 8 + 120) w (count c h)
   told = rw e (split (at % 8 + 120) (at % 8 + 120) w (omega arith))
 
-  h-told : h ≡ 120 + head_at (at % 8) w
-  h-told =
+  h_told : h ≡ 120 + head_at (at % 8) w
+  h_told =
       let m = told.most in
       let q = first in
       let a = head-above (at % 8) w in
@@ -93,13 +93,13 @@ module _ (at top best c h : ℕ) (w : List ℕ) (l : length w ≡ 16) (u : at �
 
   by-head : at - at % 8 + (h - 120) ≡ head_at at w
   by-head =
-      let t = h-told in
+      let t = h_told in
       let q = eights at w in
       omega (arith, t, q)
 
-  h-less : (at - at % 8 + (h - 120)) % 32768 ≡ 8 * (at % 32768 / 8) + head_at (at % 8) w
-  h-less =
-      let t = h-told in
+  h_less : (at - at % 8 + (h - 120)) % 32768 ≡ 8 * (at % 32768 / 8) + head_at (at % 8) w
+  h_less =
+      let t = h_told in
       let d = head-most (at % 8) w in
       let k : h - 120 ≡ head_at (at % 8) w = omega (arith, t) in
       rw k (less-offset at (head_at (at % 8) w) b r (omega (arith, d)))
@@ -138,7 +138,7 @@ module _ (at top best c h : ℕ) (w : List ℕ) (l : length w ≡ 16) (u : at �
   by-inner x z =
       let p : at % 32768 % 8 ≡ at % 8 = omega arith in
       let q : head_at (at % 32768) w ≡ 8 * (at % 32768 / 8) + head_at (at % 8) w = rw p at (eights (at % 32768) w) in
-      let y : x % 32768 ≡ head_at (at % 32768) w = ap (λ (k : ℕ). k % 32768) z ∙ h-less ∙ sym q in
+      let y : x % 32768 ≡ head_at (at % 32768) w = ap (λ (k : ℕ). k % 32768) z ∙ h_less ∙ sym q in
       let m = (split (at % 32768) best w i).most in
       let k = after-sixteen w l in
       omega (arith, y, m, k)

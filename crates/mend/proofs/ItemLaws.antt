@@ -48,8 +48,8 @@ module _ (s : List ℕ) (c : Counts) (k base : ℕ) (eb : base ≡ body_at c) wh
   item_word small old new l eo en =
       let m : k < word_count c = omega (arith, words) in
       record {
-        at-is = sym (item_at_word c k m);
-        old-is = eo ∙ sym (item_in_word c s k m);
+        at_is = sym (item_at_word c k m);
+        old_is = eo ∙ sym (item_in_word c s k m);
         new_is = en ∙ sym (word-mended s c small k m) ∙ sym (item_in_word c (mended s c) k m);
       }
 
@@ -64,15 +64,15 @@ module _ (s : List ℕ) (c : Counts) (k base : ℕ) (eb : base ≡ body_at c) wh
       let item' : item_in (mended s c) c k ≡ get_or (mended s c) (body_at c + j) 0 = rw ek at (item_in_byte c (mended s c) j) in
       let here : item_at c k ≡ body_at c + j = rw ek at (item_at_byte c j) in
       record {
-        at-is = ea ∙ sym here;
-        old-is = ap (λ (i : ℕ). get_or s i 0) ea ∙ sym item;
+        at_is = ea ∙ sym here;
+        old_is = ap (λ (i : ℕ). get_or s i 0) ea ∙ sym item;
         new_is = en ∙ ap (λ (i : ℕ). mended_byte (get_or s i 0)) ea ∙ sym (byte-mended s c j (omega arith)) ∙ sym item';
       }
 
 -- an offset is a word
 pub at_small : (s : List ℕ) (c : Counts) (k items : ℕ) (x : Item) → Few c → items ≡ item_count c → k < items → ItemOf s c k x → x.at < 2 ^ 32
 unfolding item_at
-at_small s c k items x f ei l i = by-test (ltb k (word_count c)) refl i.at-is
+at_small s c k items x f ei l i = by-test (ltb k (word_count c)) refl i.at_is
   where
     by-test : (b : Bool) → ltb k (word_count c) ≡ b → x.at ≡ (if b then 4 * k else body_at c + (k - word_count c)) → x.at < 2 ^ 32
     by-test true e a = let m = ltb-true k (word_count c) e in omega arith
@@ -110,7 +110,7 @@ module _ (s t : List ℕ) (c : Counts) where
 -- one item more
 pub to-on : (s : List ℕ) (c : Counts) (k : ℕ) (x : Item) → ItemOf s c k x → changes_to s (mended s c) c (k + 1) ≡ changes_to s (mended s c) c k ++ row_of x
 unfolding changes_to
-to-on s c k x h = rw (add-one k, h.at-is, h.old-is, h.new_is)
+to-on s c k x h = rw (add-one k, h.at_is, h.old_is, h.new_is)
 
 -- ---- their number
 
@@ -130,24 +130,24 @@ module _ (x : Item) where
 
 -- n rows of the first k items
 pub record Counting (s : List ℕ) (c : Counts) (n k : ℕ) : Type 0 where
-  pub in-items : k ≤ item_count c
+  pub in_items : k ≤ item_count c
   pub so_far : n ≡ length (changes_to s (mended s c) c k)
   pub few : n ≤ k
 
 module _ (s : List ℕ) (c : Counts) where
   pub count-begins : Counting s c 0 0
   unfolding changes_to
-  count-begins = record { in-items = omega arith; so_far = refl; few = omega arith }
+  count-begins = record { in_items = omega arith; so_far = refl; few = omega arith }
 
   module _ (n k items : ℕ) (h : Counting s c n k) (ei : items ≡ item_count c) where
     pub count-on : (x : Item) (m : ℕ) → k < items → ItemOf s c k x → m ≡ length (row_of x) → Counting s c (n + m) (k + 1)
     count-on x m l i e =
         let f = row-few x in
         let o = h.few in
-        record { in-items = omega arith; so_far = rw (to-on s c k x i, length-append, ← h.so_far, ← e); few = omega arith }
+        record { in_items = omega arith; so_far = rw (to-on s c k x i, length-append, ← h.so_far, ← e); few = omega arith }
 
     pub count-ends : items ≤ k → n ≡ length (rows_of s c)
     count-ends l =
-        let i = h.in-items in
+        let i = h.in_items in
         let e : k ≡ item_count c = omega arith in
         h.so_far ∙ ap (λ (j : ℕ). length (changes_to s (mended s c) c j)) e ∙ ap length (changes-to s (mended s c) c)

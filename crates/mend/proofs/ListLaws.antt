@@ -57,15 +57,15 @@ module _ (d : List ℕ) (at : ℕ) (x : Item) where
 
 -- the rows of the first k items stand in a report that was d, and the next goes to `at`
 pub record Listing (s : List ℕ) (c : Counts) (d r : List ℕ) (at k : ℕ) : Type 0 where
-  pub in-items : k ≤ item_count c
-  pub same-room : length r ≡ length d
+  pub in_items : k ≤ item_count c
+  pub same_room : length r ≡ length d
   pub behind : at ≡ length (change_words (changes_to s (mended s c) c k))
   pub words : r ≡ put d 0 (change_words (changes_to s (mended s c) c k))
 
 module _ (s : List ℕ) (c : Counts) (d : List ℕ) where
   pub list-begins : Listing s c d d 0 0
   unfolding changes_to change_words
-  list-begins = record { in-items = omega arith; same-room = refl; behind = refl; words = sym (put-nil d 0) }
+  list-begins = record { in_items = omega arith; same_room = refl; behind = refl; words = sym (put-nil d 0) }
 
   module _ (r : List ℕ) (at k items : ℕ) (h : Listing s c d r at k) (ei : items ≡ item_count c) where
     module _ (x : Item) (l : k < items) (i : ItemOf s c k x) where
@@ -75,7 +75,7 @@ module _ (s : List ℕ) (c : Counts) (d : List ℕ) where
       pub list-room : 3 * length (rows_of s c) ≤ length d → at + length (change_words (row_of x)) ≤ length r
       list-room room =
           let b = h.behind in
-          let m = h.same-room in
+          let m = h.same_room in
           let t = changes_to s (mended s c) c (k + 1) in
           let f = to-few s (mended s c) c (k + 1) (omega arith) in
           let n : length (change_words t) ≡ at + length (change_words (row_of x)) = rw (words-on, length-append, ← b) in
@@ -86,8 +86,8 @@ module _ (s : List ℕ) (c : Counts) (d : List ℕ) where
           let b = h.behind in
           let so_far = change_words (changes_to s (mended s c) c k) in
           record {
-            in-items = omega arith;
-            same-room = m ∙ h.same-room;
+            in_items = omega arith;
+            same_room = m ∙ h.same_room;
             behind = ea ∙ rw (words-on, length-append, ← b);
             words = er ∙ rw (words-on, h.words) (put-more d 0 so_far (change_words (row_of x)) at (omega arith) (omega arith));
           }
@@ -95,7 +95,7 @@ module _ (s : List ℕ) (c : Counts) (d : List ℕ) where
     pub list-ends : items ≤ k → d ≡ replicate (length d) 0 → r ≡ report_of s c (length d)
     unfolding put report_of
     list-ends l z =
-        let i = h.in-items in
+        let i = h.in_items in
         let e : k ≡ item_count c = omega arith in
         let rows = rows_of s c in
         let w : r ≡ put d 0 (change_words rows) = h.words ∙ rw (e, changes-to s (mended s c) c) in

@@ -31,13 +31,13 @@ module _ (d : List ℕ) (base at new : ℕ) where
 
   pub by_byte : (b : ℕ) → b ≡ base → b ≤ at → RowIn base (length d) at new → set d at new ≡ written_at base at new d
   unfolding written_at
-  by_byte b e l r = set_split d at new (r.byte-in (omega arith)) ∙ rw (le-ltb at base (omega arith), add-one at) (sym (append_snoc (take at d) new (drop (suc at) d)))
+  by_byte b e l r = set_split d at new (r.byte_in (omega arith)) ∙ rw (le-ltb at base (omega arith), add-one at) (sym (append_snoc (take at d) new (drop (suc at) d)))
 
   pub word_room : (b : ℕ) → b ≡ base → at < b → RowIn base (length d) at new → at + 4 ≤ length d
   word_room b e l r = r.word_in (omega arith)
 
   pub byte-room : (b : ℕ) → b ≡ base → b ≤ at → RowIn base (length d) at new → at < length d
-  byte-room b e l r = r.byte-in (omega arith)
+  byte-room b e l r = r.byte_in (omega arith)
 
   pub byte_small : (b : ℕ) → b ≡ base → b ≤ at → RowIn base (length d) at new → new < 256
   byte_small b e l r = r.byte_fits (omega arith)
@@ -80,11 +80,11 @@ module _ (s : List ℕ) (c : Counts) (h : Sized s c) where
           → RowIn (body_at c) (length s) (if b then 4 * k else body_at c + (k - word_count c)) (if b then word_at (mended s c) (4 * k) else get_or (mended s c) (body_at c + (k - word_count c)) 0)
       by-test true e =
           let m = ltb-true k (word_count c) e in
-          let n = h.long in record { word_in = λ i. omega arith; byte-in = λ i. absurd (omega arith); byte_fits = λ i. absurd (omega arith) }
+          let n = h.long in record { word_in = λ i. omega arith; byte_in = λ i. absurd (omega arith); byte_fits = λ i. absurd (omega arith) }
       by-test false e =
           let m = ltb-false k (word_count c) e in
           let n = h.long in
-          record { word_in = λ i. absurd (omega arith); byte-in = λ i. omega arith; byte_fits = λ i. small-mended s c (body_at c + (k - word_count c)) }
+          record { word_in = λ i. absurd (omega arith); byte_in = λ i. omega arith; byte_fits = λ i. small-mended s c (body_at c + (k - word_count c)) }
 
   row_in : (i : ℕ) → i < length (rows_of s c) → RowIn (body_at c) (length s) (get_or (rows_of s c) i nothing).at (get_or (rows_of s c) i nothing).new
   row_in = rw (← changes-to s (mended s c) c) (each_to (λ x. RowIn (body_at c) (length s) x.at x.new) s (mended s c) c (item_count c) item_in_lem)

@@ -18,8 +18,8 @@ item_in s c k = if ltb k (word_count c) then word_at s (4 * k) else get_or s (bo
 
 -- an item of a sheet that is mended
 pub record ItemOf (s : List ℕ) (c : Counts) (k : ℕ) (x : Item) : Type 0 where
-  pub at-is : x.at ≡ item_at c k
-  pub old-is : x.old ≡ item_in s c k
+  pub at_is : x.at ≡ item_at c k
+  pub old_is : x.old ≡ item_in s c k
   pub new_is : x.new ≡ item_in (mended s c) c k
 
 -- the rows of the first k items
@@ -41,5 +41,5 @@ report_of s c words = change_words (rows_of s c) ++ replicate (words - 3 * lengt
 -- what a row writes lies in a sheet of n bytes, and fits there
 pub record RowIn (base n at new : ℕ) : Type 0 where
   pub word_in : at < base → at + 4 ≤ n
-  pub byte-in : base ≤ at → at < n
+  pub byte_in : base ≤ at → at < n
   pub byte_fits : base ≤ at → new < 256

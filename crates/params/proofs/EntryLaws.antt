@@ -34,7 +34,7 @@ use Rattle.params.proofs.FoundLaws.{entry-below}
 
 module _ (s : List ℕ) (c : Counts) (i : ℕ) (h : i < c.params) (sheeted : Sheeted s c) where
   pub param-record : params_at c + 16 * i + 16 ≤ length s
-  param-record = (sheeted.params.within i h).record-in
+  param-record = (sheeted.params.within i h).record_in
 
   pub name-inside : (base : ℕ) (q : Place) → base ≡ body_at c → q ≡ place_at s (params_at c + 16 * i) → Inside s base q
   name-inside base q eb eq = rw (eb, eq) (sheeted.params.within i h).name_in

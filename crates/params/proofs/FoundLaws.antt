@@ -70,13 +70,13 @@ module _ (s : List ℕ) (c : Counts) where
 
   -- ---- Indexed
 
-  at-is : (i : ℕ) → number_in (entry_at c i) ≡ by_number values i
+  at_is : (i : ℕ) → number_in (entry_at c i) ≡ by_number values i
   unfolding entry_at by_number
-  at-is i = rw (length-list (value_of s c) 0 c.params) (pick i (ltb i c.params) Entry.Nothing none refl)
+  at_is i = rw (length-list (value_of s c) 0 c.params) (pick i (ltb i c.params) Entry.Nothing none refl)
 
   from_is : (n : Index) → number_in (entry_from c n) ≡ by_index values n
   unfolding entry_from by_index
-  from_is (index.At n) = at-is n.0
+  from_is (index.At n) = at_is n.0
   from_is index.Refused = refl
 
   -- ---- the lookup
@@ -92,14 +92,14 @@ module _ (s : List ℕ) (c : Counts) where
     -- a name of m bytes
     name-is : (v : List ℕ) (m : ℕ) → length v ≡ m → number_in (if eqb m 0 then entry_at c i else Entry.Nothing) ≡ source (Indexed values) (named v) i
     unfolding source
-    name-is [] m h = rw (← h) (at-is i)
+    name-is [] m h = rw (← h) (at_is i)
     name-is (x ∷ v) m h = rw (ne_eqb m 0 (λ z. omega arith))
 
     indexed-is : (k : PlaceholderKind) → KeyIn s (body_at c) k → number_in (entry_indexed c k i) ≡ source (Indexed values) (key_read s (body_at c) k) i
     unfolding entry_indexed takes_next entry_numbered source key_read by_index
-    indexed-is key.Absent h = at-is i
+    indexed-is key.Absent h = at_is i
     indexed-is (key.Named p) h = name-is (body_part s (body_at c) p) p.len (length_part s (body_at c) p (h.name_in p refl))
-    indexed-is (key.Zero n) h = at-is n.0
+    indexed-is (key.Zero n) h = at_is n.0
     indexed-is (key.One n) h = from_is (from_one n)
 
     pub entry-is : (k : PlaceholderKind) → KeyIn s (body_at c) k → number_in (entry_for s c k i) ≡ source (params_of s c) (key_read s (body_at c) k) i

@@ -84,9 +84,9 @@ no-feed (x ∷ xs) h = go (eqb x 10) refl (no-feed xs)
     go true e g = absurd (let k : before 10 (x ∷ xs) ≡ 0 = rw e in omega arith)
     go false e g = let k : before 10 (x ∷ xs) ≡ suc (before 10 xs) = rw e in rw e (g (omega arith))
 
-a-feed : (v : List ℕ) → before 10 v < length v → has 10 10 v ≡ true
-a-feed [] h = absurd (omega arith)
-a-feed (x ∷ xs) h = go (eqb x 10) refl (a-feed xs)
+a_feed : (v : List ℕ) → before 10 v < length v → has 10 10 v ≡ true
+a_feed [] h = absurd (omega arith)
+a_feed (x ∷ xs) h = go (eqb x 10) refl (a_feed xs)
   where
     go : (f : Bool) → eqb x 10 ≡ f → (before 10 xs < length xs → has 10 10 xs ≡ true) → has 10 10 (x ∷ xs) ≡ true
     go true e g = rw e
@@ -201,7 +201,7 @@ module _ (d : List ℕ) (start n : ℕ) (m : Measure) (at head best line tab end
   by-more-lines z r g =
       let k = long in
       let e = end_is in
-      let o = a-feed v (omega (arith, l.0, l.1)) in
+      let o = a_feed v (omega (arith, l.0, l.1)) in
       let p = split m.at m.best v q.2 in
       let j = told-best v m.best at head best short t in
       let i = head-mono v 0 m.at (omega arith) in

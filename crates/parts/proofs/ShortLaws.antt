@@ -191,9 +191,9 @@ within-parts m v w x n u h =
     let c = best_more (measure a w) x in
     rw (measure-both m v (w ++ x), measure-both a w x) (omega (arith, b, c, h))
 
-pub a-wide-line : (d : List ℕ) (start far j k : ℕ) (c h g feeds : List ℕ) (from : Measure) → from.at ≤ from.best → Narrows d start far j c h g feeds → far ≤ j → k < 16 → 120 ≤ get_or g k 0
+pub a_wide_line : (d : List ℕ) (start far j k : ℕ) (c h g feeds : List ℕ) (from : Measure) → from.at ≤ from.best → Narrows d start far j c h g feeds → far ≤ j → k < 16 → 120 ≤ get_or g k 0
     → 120 ≤ (measure from (part d start (16 * far))).best
-a-wide-line d start far j k c h g feeds from u s b i w =
+a_wide_line d start far j k c h g feeds from u s b i w =
     let v = part d (start + k * far) far in
     let z : j ≡ far = omega (arith, s.within) in
     let eg : get_or g k 0 ≡ (lane v).inner = rw z at (s.inner k i) in

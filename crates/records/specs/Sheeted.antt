@@ -33,7 +33,7 @@ pub record TokenWords (s : List ℕ) (at : ℕ) : Type 0 where
 
 -- parameter i: its record in the file, its places in the bodies, and no name but in mode 2
 pub record ParamIn (s : List ℕ) (c : Counts) (i : ℕ) : Type 0 where
-  pub record-in : params_at c + 16 * i + 16 ≤ length s
+  pub record_in : params_at c + 16 * i + 16 ≤ length s
   pub name_in : Inside s (body_at c) (place_at s (params_at c + 16 * i))
   pub value_in : Inside s (body_at c) (place_at s (params_at c + 16 * i + 8))
   pub nameless : (word_at s 16 ≡ 2 → ⊥) → place_at s (params_at c + 16 * i) ≡ record { start = 0; len = 0 }
@@ -45,7 +45,7 @@ pub record ParamsPlaced (s : List ℕ) (c : Counts) : Type 0 where
 
 -- keep word i: its record in the file, its place in the bodies
 pub record KeepIn (s : List ℕ) (c : Counts) (i : ℕ) : Type 0 where
-  pub record-in : keeps_at c + 8 * i + 8 ≤ length s
+  pub record_in : keeps_at c + 8 * i + 8 ≤ length s
   pub place_in : Inside s (body_at c) (place_at s (keeps_at c + 8 * i))
 
 -- so for all

@@ -67,27 +67,27 @@ module _ (f : Row → Row) (d₀ : List ℕ) (count : ℕ) where
     unfolding rows_words
     stands = l.here ∙ ap (λ (rs : List Row). rows_words rs ++ l.rest) one_more ∙ append_assoc (rows_words before) (row_words row) l.rest
 
-    at-is : at ≡ length (rows_words before)
-    at-is = ea ∙ sym (length-rows before ∙ ap (λ (k : ℕ). 5 * k) (length-in (i - 1) d₀))
+    at_is : at ≡ length (rows_words before)
+    at_is = ea ∙ sym (length-rows before ∙ ap (λ (k : ℕ). 5 * k) (length-in (i - 1) d₀))
 
     pub in_list : at + 5 ≤ length d
     unfolding row_words
     in_list =
         let m = length-append (rows_words before) (row_words row ++ l.rest) in
         let e : length d ≡ length (rows_words before ++ (row_words row ++ l.rest)) = ap length stands in
-        let g = at-is in omega arith
+        let g = at_is in omega arith
 
     pub start_is : start_at d at ≡ row.start
-    start_is = ap (λ (x : List ℕ). start_at x at) stands ∙ start-in (rows_words before) l.rest row at at-is
+    start_is = ap (λ (x : List ℕ). start_at x at) stands ∙ start-in (rows_words before) l.rest row at at_is
 
     pub len_is : len_at d at ≡ row.len
-    len_is = ap (λ (x : List ℕ). len_at x at) stands ∙ len-in (rows_words before) l.rest row at at-is
+    len_is = ap (λ (x : List ℕ). len_at x at) stands ∙ len-in (rows_words before) l.rest row at at_is
 
     pub walk-on : (d' : List ℕ) (start len : ℕ) → d' ≡ with_span d at start len → f row ≡ moved row start len → length d' ≡ length d → Left d' (i - 1)
     unfolding rows_words
     walk-on d' start len w e n = record {
       rest = row_words (moved row start len) ++ l.rest;
-      here = w ∙ ap (λ (x : List ℕ). with_span x at start len) stands ∙ span-put (rows_words before) l.rest row at at-is start len;
+      here = w ∙ ap (λ (x : List ℕ). with_span x at start len) stands ∙ span-put (rows_words before) l.rest row at at_is start len;
       whole = l.whole ∙ ap (λ (rs : List Row). rows_words (map f rs) ++ l.rest) one_more ∙ append_assoc (rows_words (map f before)) (row_words (f row)) l.rest ∙ ap (λ (r : Row). rows_words (map f before) ++ (row_words r ++ l.rest)) e;
       room = n ∙ l.room;
     }

@@ -147,9 +147,9 @@ module _ (e : Env) where
   unfolding format room start no_indentation
   enough ts = looser (omega arith) _ (enough-from [] ts switched_on start (omega arith) tt)
 
-  pub never-nine : (ts : List Token) → room e.options e.params ts ≤ e.room → (p : ℕ) → format e ts ≡ refusal 9 p → ⊥
+  pub never_nine : (ts : List Token) → room e.options e.params ts ≤ e.room → (p : ℕ) → format e ts ≡ refusal 9 p → ⊥
   unfolding FitsIn
-  never-nine ts l p h = (rw h at (enough ts)) l refl
+  never_nine ts l p h = (rw h at (enough ts)) l refl
 
 -- ---- a sheet, in a buffer of n bytes
 

@@ -322,15 +322,15 @@ block_pushed folded i f = rw f (go folded)
 
 -- the stacks stay, whatever the inline blocks do
 record Unstacked (s u : State) : Type 0 where
-  same-stacks : u.indentation ≡ s.indentation
+  same_stacks : u.indentation ≡ s.indentation
 
 infixl 40 ◌and◌ ◌onto◌
 ◌and◌ : {s u w : State} → Unstacked s u → Kept {A = Indentation (List ℕ)} (λ i. i) u w → Unstacked s w
-◌and◌ p q = record { same-stacks = q.stacks ∙ p.same-stacks }
+◌and◌ p q = record { same_stacks = q.stacks ∙ p.same_stacks }
 
 begun : (f : List ℕ → List ℕ) {s u : State} → Kept {A = Indentation (List ℕ)} (λ i. i) s u → Unstacked s (on_inline_block f u)
 unfolding on_inline_block
-begun f p = record { same-stacks = p.stacks }
+begun f p = record { same_stacks = p.stacks }
 
 -- a block more, where the stack is not full
 pub record Pushed (s u : State) : Type 0 where
@@ -338,7 +338,7 @@ pub record Pushed (s u : State) : Type 0 where
 
 opens : (folded : Bool) {s u : State} → Unstacked s u → Pushed s (on_indentation (increase_block_level folded) u)
 unfolding on_indentation
-opens folded {s} {u} p = record { more = λ f. rw p.same-stacks (block_pushed folded s.indentation f) }
+opens folded {s} {u} p = record { more = λ f. rw p.same_stacks (block_pushed folded s.indentation f) }
 
 ◌onto◌ : {s u w : State} → Pushed s u → Same u w → Pushed s w
 ◌onto◌ p q = record { more = λ f. q.stacks ∙ p.more f }
@@ -371,13 +371,13 @@ module _ (e : Env) (h : Here) (info : BlockInfo) (s : State) where
 
 -- the last step of s, of which the stacks stay
 record Ends (s u : State) : Type 0 where
-  blocks-stay : blocks u.indentation ≡ blocks s.indentation
-  inline-is : u.inline_block ≡ (if is_active s.inline_block then tail s.inline_block else s.inline_block)
+  blocks_stay : blocks u.indentation ≡ blocks s.indentation
+  inline_is : u.inline_block ≡ (if is_active s.inline_block then tail s.inline_block else s.inline_block)
 
 ends : (b : Bool) (f g : State → State) (s : State) → b ≡ is_active s.inline_block → Same (on_inline_block tail s) (f s) → Same s (g s) → Ends s (choose b f g s)
 unfolding choose on_inline_block
-ends true f g s a p q = record { blocks-stay = p.stacks; inline-is = rw (← a) p.inline }
-ends false f g s a p q = record { blocks-stay = q.stacks; inline-is = rw (← a) q.inline }
+ends true f g s a p q = record { blocks_stay = p.stacks; inline_is = rw (← a) p.inline }
+ends false f g s a p q = record { blocks_stay = q.stacks; inline_is = rw (← a) q.inline }
 
 module _ (e : Env) (h : Here) (s : State) where
   closed : Ends (on_indentation (λ i. (decrease_block_level s.indentation).left) (on_block_level (λ n. n - 1) s)) (format_closing_parentheses e h s)
@@ -386,8 +386,8 @@ module _ (e : Env) (h : Here) (s : State) where
 
   pub closing-blocks : blocks_in (format_closing_parentheses e h s).indentation.indent_types ≡ blocks_in s.indentation.indent_types - 1
   unfolding on_indentation decrease_block_level
-  closing-blocks = closed.blocks-stay ∙ block_pops s.indentation.indent_types s.indentation.top_level_span s.indentation.previous
+  closing-blocks = closed.blocks_stay ∙ block_pops s.indentation.indent_types s.indentation.top_level_span s.indentation.previous
 
   pub closing-inline : (format_closing_parentheses e h s).inline_block ≡ (if is_active s.inline_block then tail s.inline_block else s.inline_block)
   unfolding on_indentation on_block_level
-  closing-inline = closed.inline-is
+  closing-inline = closed.inline_is

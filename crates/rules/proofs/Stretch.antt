@@ -18,14 +18,14 @@ use Rattle.rules.proofs.Kept.{take_below, white-take, white-drop, white-append, 
 -- ---- values that survive
 
 pub survives_all : (v : List ℕ) → Survives v v
-survives_all v = record { before = []; after = []; whole = sym (append-nil v); blank-before = refl; blank-after = refl }
+survives_all v = record { before = []; after = []; whole = sym (append-nil v); blank_before = refl; blank_after = refl }
 
 -- white bytes at the end went; at the start; all were white
 survives_end : (x w : List ℕ) → strip w ≡ [] → Survives x (x ++ w)
-survives_end x w e = record { before = []; after = w; whole = refl; blank-before = refl; blank-after = e }
+survives_end x w e = record { before = []; after = w; whole = refl; blank_before = refl; blank_after = e }
 
 survives_start : (x w : List ℕ) → strip w ≡ [] → Survives x (w ++ x)
-survives_start x w e = record { before = w; after = []; whole = sym (append-nil (w ++ x)); blank-before = e; blank-after = refl }
+survives_start x w e = record { before = w; after = []; whole = sym (append-nil (w ++ x)); blank_before = e; blank_after = refl }
 
 survives_none : (v : List ℕ) → strip v ≡ [] → Survives [] v
 survives_none v e = survives_end [] v e
@@ -36,8 +36,8 @@ survives_then x y v p q =
       before = p.before ++ q.before;
       after = q.after ++ p.after;
       whole = p.whole ∙ rw q.whole (simp append_assoc);
-      blank-before = white-append p.before q.before p.blank-before q.blank-before;
-      blank-after = white-append q.after p.after q.blank-after p.blank-after;
+      blank_before = white-append p.before q.before p.blank_before q.blank_before;
+      blank_after = white-append q.after p.after q.blank_after p.blank_after;
     }
 
 -- as a stretch of the value: there is a number to count from
@@ -46,7 +46,7 @@ survives_from x v p = (length p.before, sym (rw (p.whole, append_assoc p.before 
 
 -- without its white bytes it is the value
 pub survives_strip : (x v : List ℕ) → Survives x v → strip x ≡ strip v
-survives_strip x v p = sym (rw (p.whole, strip-append (p.before ++ x) p.after, strip-append p.before x, p.blank-before, p.blank-after) (append-nil (strip x)))
+survives_strip x v p = sym (rw (p.whole, strip-append (p.before ++ x) p.after, strip-append p.before x, p.blank_before, p.blank_after) (append-nil (strip x)))
 
 -- ---- a cut to n bytes
 

@@ -104,7 +104,7 @@ pub record SameSheet (s t : List ℕ) : Type 0 where
   pub sound : checked t ≡ found.Sound (counts_of t)
   -- both layout calls give the old sheet's answer
   pub answers : (room : ℕ) → answer t room ≡ answer s room
-  pub listed-so : (room k : ℕ) → listed t room k ≡ listed s room k
+  pub listed_so : (room k : ℕ) → listed t room k ≡ listed s room k
   pub lists : (room k : ℕ) → list_after t room k ≡ list_after s room k
   -- compacting it gives it back; every body byte of it is covered, and it is not longer
   pub again : compacted t (counts_of t) ≡ t

@@ -79,8 +79,8 @@ pub record Survives (x v : List ℕ) : Type 0 where
   pub before : List ℕ
   pub after : List ℕ
   pub whole : v ≡ before ++ x ++ after
-  pub blank-before : strip before ≡ []
-  pub blank-after : strip after ≡ []
+  pub blank_before : strip before ≡ []
+  pub blank_after : strip after ≡ []
 
 -- the row of a placeholder, no byte of it after the first `top`; to: what is due of the first so many tokens
 pub record Points (to : ℕ → List ℕ) (b : List ℕ) (top : ℕ) (x : Shown) (r : Row) : Type 0 where

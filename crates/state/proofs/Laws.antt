@@ -78,9 +78,9 @@ module _ (s : List ℕ) (x : Context) (i : ℕ) (f : Env → Here → State → 
   by_value g v t r q e laid m h = rw m (by-text s x i f st d ready (g (word_of s x.base i)) t q (rw (value-is s x i v e) at laid) h)
 
 -- the level of a new line, as the code reads it
-pub level-is : (s : List ℕ) (base : ℕ) (st : Code) (d : List ℕ) (b : Bool) → indent_level b (state_of s base st d).indentation ≡ indent_level b (indentation_of st.indentation)
+pub level_is : (s : List ℕ) (base : ℕ) (st : Code) (d : List ℕ) (b : Bool) → indent_level b (state_of s base st d).indentation ≡ indent_level b (indentation_of st.indentation)
 unfolding state_of on_words indent_level
-level-is s base st d b = refl
+level_is s base st d b = refl
 
 -- what the readers around a token ask, of a sheet in its context
 pub known-readable : (s : List ℕ) (x : Context) → Known s x → Readable s x.base x.counts.tokens

@@ -86,16 +86,16 @@ still-deep part.Rest level h c = h
 
 -- r is what the reading of a block gives, i being its bracket, b what is read up to token j, and m its close (n: none)
 pub record Read (f : ℕ → Token) (n i j m : ℕ) (b r : BlockInfo) : Type 0 where
-  pub length-is : r.length + size f i ≡ size f (min (m + 1) n)
-  pub forbidden-is : r.has_forbidden_tokens ≡ (b.has_forbidden_tokens || ltb (count (forbidden_at f) j) (count (forbidden_at f) m))
-  pub reserved-is : r.has_reserved_tokens ≡ (b.has_reserved_tokens || ltb (count (newline_at f) j) (count (newline_at f) m))
-  pub span-is : r.top_level_token_span ≡ read_span f (m - j) j (lift (depth f i) (size f i) b.start) b.top_level_token_span
+  pub length_is : r.length + size f i ≡ size f (min (m + 1) n)
+  pub forbidden_is : r.has_forbidden_tokens ≡ (b.has_forbidden_tokens || ltb (count (forbidden_at f) j) (count (forbidden_at f) m))
+  pub reserved_is : r.has_reserved_tokens ≡ (b.has_reserved_tokens || ltb (count (newline_at f) j) (count (newline_at f) m))
+  pub span_is : r.top_level_token_span ≡ read_span f (m - j) j (lift (depth f i) (size f i) b.start) b.top_level_token_span
 
 -- inside the block
 pub record Inside (f : ℕ → Token) (i j : ℕ) (b : BlockInfo) : Type 0 where
-  pub level-is : b.level + depth f i ≡ depth f j
+  pub level_is : b.level + depth f i ≡ depth f j
   pub deep : 1 ≤ b.level
-  pub length-is : b.length + size f i ≡ size f j
+  pub length_is : b.length + size f i ≡ size f j
 
 module _ (f : ℕ → Token) (n i : ℕ) where
   list-step : (j k : ℕ) → list_of f j (suc k) ≡ f j ∷ list_of f (j + 1) k
@@ -108,28 +108,28 @@ module _ (f : ℕ → Token) (n i : ℕ) where
 
   module _ (j : ℕ) (b : BlockInfo) (q : Inside f i j b) where
     closes-at : closes_at (part_at f j) (measured (f j) b).level ≡ close_to f (depth f i) j
-    closes-at = closes_as (part_at f j) b.level (depth f i) q.deep ∙ rw q.level-is
+    closes-at = closes_as (part_at f j) b.level (depth f i) q.deep ∙ rw q.level_is
 
     longer-by : b.length + length (f j).value + size f i ≡ size f (j + 1)
-    longer-by = let e = size_step f j in let g = q.length-is in omega arith
+    longer-by = let e = size_step f j in let g = q.length_is in omega arith
 
     inside_on : close_to f (depth f i) j ≡ false → Inside f i (j + 1) (taken j b)
     inside_on c = record {
-      level-is = deeper (part_at f j) b.level (depth f i) q.deep ∙ rw (q.level-is, depth-step f j);
+      level_is = deeper (part_at f j) b.level (depth f i) q.deep ∙ rw (q.level_is, depth-step f j);
       deep = still-deep (part_at f j) b.level q.deep (closes-at ∙ c);
-      length-is = longer-by;
+      length_is = longer-by;
     }
 
     start-on : lift (depth f i) (size f i) (taken j b).start ≡ (if is_top (part_at f j) then start_after (lift (depth f i) (size f i) b.start) (depth f j) (size f (suc j)) else lift (depth f i) (size f i) b.start)
     start-on =
         let z : size f (suc j) ≡ size f (j + 1) = ap (size f) (sym (add-one j)) in
         lift-top (is_top (part_at f j)) (depth f i) (size f i) (start_after b.start b.level (b.length + length (f j).value)) b.start
-        ∙ rw (z, ← longer-by, ← q.level-is, lift-start (depth f i) (size f i) b.start b.level (b.length + length (f j).value))
+        ∙ rw (z, ← longer-by, ← q.level_is, lift-start (depth f i) (size f i) b.start b.level (b.length + length (f j).value))
 
     span-on : (taken j b).top_level_token_span ≡ (if is_top (part_at f j) then span_after (lift (depth f i) (size f i) b.start) (depth f j) (size f (suc j)) b.top_level_token_span else b.top_level_token_span)
     span-on =
         let z : size f (suc j) ≡ size f (j + 1) = ap (size f) (sym (add-one j)) in
-        rw (z, ← longer-by, ← q.level-is, ← lift-span (depth f i) (size f i) b.start b.level (b.length + length (f j).value) b.top_level_token_span)
+        rw (z, ← longer-by, ← q.level_is, ← lift-span (depth f i) (size f i) b.start b.level (b.length + length (f j).value) b.top_level_token_span)
 
   close-plain : (p : Part) (q : Bool) → (is_close p && q) ≡ true → (is_newline p ≡ false) × (is_top p ≡ false)
   close-plain part.Top q h = absurd (true_false h refl)
@@ -146,17 +146,17 @@ module _ (f : ℕ → Token) (n i : ℕ) where
   ends j m b r e l x y z =
       let d : m - j ≡ 0 = omega arith in
       record {
-        length-is = l;
-        forbidden-is = x ∙ rw e (found_none (forbidden_at f) b.has_forbidden_tokens j);
-        reserved-is = y ∙ rw e (found_none (newline_at f) b.has_reserved_tokens j);
-        span-is = z ∙ sym (rw d (read_none f j (lift (depth f i) (size f i) b.start) b.top_level_token_span));
+        length_is = l;
+        forbidden_is = x ∙ rw e (found_none (forbidden_at f) b.has_forbidden_tokens j);
+        reserved_is = y ∙ rw e (found_none (newline_at f) b.has_reserved_tokens j);
+        span_is = z ∙ sym (rw d (read_none f j (lift (depth f i) (size f i) b.start) b.top_level_token_span));
       }
 
   read-ends : (j m : ℕ) (b : BlockInfo) → j ≡ n → Inside f i j b → First (close_to f (depth f i)) j n m → Read f n i j m b b
   read-ends j m b e q r =
       let p = r.past in
       let u = r.up_to in
-      let d : min (m + 1) n ≡ j = omega arith in ends j m b b (omega arith) (rw d q.length-is) refl refl refl
+      let d : min (m + 1) n ≡ j = omega arith in ends j m b b (omega arith) (rw d q.length_is) refl refl refl
 
   read-stops : (j m : ℕ) (b : BlockInfo) → j < n → Inside f i j b → First (close_to f (depth f i)) j n m → close_to f (depth f i) j ≡ true → Read f n i j m b (measured (f j) b)
   read-stops j m b h q r c =
@@ -170,11 +170,11 @@ module _ (f : ℕ → Token) (n i : ℕ) where
   read_back j m b r l q g =
       let d : m - j ≡ suc (m - (j + 1)) = omega arith in
       record {
-        length-is = g.length-is;
-        forbidden-is = g.forbidden-is ∙ found-on (forbidden_at f) b.has_forbidden_tokens j m l;
-        reserved-is = g.reserved-is ∙ found-on (newline_at f) b.has_reserved_tokens j m l;
-        span-is =
-            g.span-is
+        length_is = g.length_is;
+        forbidden_is = g.forbidden_is ∙ found-on (forbidden_at f) b.has_forbidden_tokens j m l;
+        reserved_is = g.reserved_is ∙ found-on (newline_at f) b.has_reserved_tokens j m l;
+        span_is =
+            g.span_is
             ∙ rw (start-on j b q, span-on j b q, d, add-one) (sym (read_step f (m - suc j) j (lift (depth f i) (size f i) b.start) b.top_level_token_span));
       }
 
@@ -193,17 +193,17 @@ module _ (f : ℕ → Token) (n i : ℕ) where
 -- ---- the facts of the block of an opening bracket i, m being its close
 
 pub record Facts (f : ℕ → Token) (n i m : ℕ) (r : BlockInfo) : Type 0 where
-  pub length-is : r.length + size f i ≡ size f (min (m + 1) n)
-  pub forbidden-is : r.has_forbidden_tokens ≡ ltb (count (forbidden_at f) i) (count (forbidden_at f) m)
-  pub reserved-is : r.has_reserved_tokens ≡ ltb (count (newline_at f) i) (count (newline_at f) m)
-  pub span-is : r.top_level_token_span ≡ span_from f (i + 1) m 0
+  pub length_is : r.length + size f i ≡ size f (min (m + 1) n)
+  pub forbidden_is : r.has_forbidden_tokens ≡ ltb (count (forbidden_at f) i) (count (forbidden_at f) m)
+  pub reserved_is : r.has_reserved_tokens ≡ ltb (count (newline_at f) i) (count (newline_at f) m)
+  pub span_is : r.top_level_token_span ≡ span_from f (i + 1) m 0
 
 module _ (f : ℕ → Token) (n i m : ℕ) (o : part_at f i ≡ part.Open) (h : i < n) (q : First (close_to f (depth f i)) (i + 1) n m) where
   opened : Inside f i (i + 1) (taken f n i i unbuilt)
   opened =
       let e = size_step f i in
       let g : depth f (i + 1) ≡ depth f i + 1 = depth-step f i ∙ rw o in
-      let l : (taken f n i i unbuilt).level ≡ 1 = rw o in record { level-is = omega arith; deep = omega arith; length-is = omega arith }
+      let l : (taken f n i i unbuilt).level ≡ 1 = rw o in record { level_is = omega arith; deep = omega arith; length_is = omega arith }
 
   build_open : build_info (list_of f i (n - i)) ≡ build_from (list_of f (i + 1) (n - (i + 1))) (taken f n i i unbuilt)
   unfolding build_info
@@ -221,8 +221,8 @@ module _ (f : ℕ → Token) (n i m : ℕ) (o : part_at f i ≡ part.Open) (h : 
       let z : u.top_level_token_span ≡ 0 = rw o in
       rw build_open
       (record {
-        length-is = g.length-is;
-        forbidden-is = g.forbidden-is ∙ found-on (forbidden_at f) false i m p;
-        reserved-is = g.reserved-is ∙ found-on (newline_at f) false i m p;
-        span-is = g.span-is ∙ rw (s, z);
+        length_is = g.length_is;
+        forbidden_is = g.forbidden_is ∙ found-on (forbidden_at f) false i m p;
+        reserved_is = g.reserved_is ∙ found-on (newline_at f) false i m p;
+        span_is = g.span_is ∙ rw (s, z);
       })

@@ -41,17 +41,17 @@ module _ (f : ℕ → Token) (n : ℕ) where
   pub record Depths (j : ℕ) (t : List ℕ) (level : ℕ) : Type 0 where
     pub up_to : j ≤ n
     pub long : 6 * n ≤ length t
-    pub level-is : level ≡ depth f j
+    pub level_is : level ≡ depth f j
     pub tops : (d : ℕ) → d < j → word_of t d 4 ≡ n * 65536 + depth f d
     pub closes : (d : ℕ) → d < j → word_of t d 5 ≡ n
 
   pub depths_begin : (t : List ℕ) → 6 * n ≤ length t → Depths 0 t 0
   unfolding depth
-  depths_begin t h = record { up_to = omega arith; long = h; level-is = refl; tops = λ d l. absurd (omega arith); closes = λ d l. absurd (omega arith) }
+  depths_begin t h = record { up_to = omega arith; long = h; level_is = refl; tops = λ d l. absurd (omega arith); closes = λ d l. absurd (omega arith) }
 
   module _ (j : ℕ) (t : List ℕ) (level : ℕ) (q : Depths j t level) (s : Short f n) where
     pub level-small : level ≤ 1024
-    level-small = let a = depth_le f j in let b = q.up_to in let c = s.few in let d = q.level-is in omega arith
+    level-small = let a = depth_le f j in let b = q.up_to in let c = s.few in let d = q.level_is in omega arith
 
     pub depths_on : (u : List ℕ) (w v level' : ℕ) → j < n → w ≡ n * 65536 + level → v ≡ n → PutTwo t u j 4 w v → level' ≡ level_after (part_at f j) level → Depths (j + 1) u level'
     depths_on u w v level' h ew ev p e =
@@ -60,8 +60,8 @@ module _ (f : ℕ → Token) (n : ℕ) where
         record {
           up_to = omega arith;
           long = omega arith;
-          level-is = e ∙ rw (q.level-is, depth-step f j);
-          tops = λ d k. ⊎_elim (λ x. p.others (6 * d + 4) (λ y. omega arith) (λ y. omega arith) ∙ q.tops d x) (λ x. let z : d ≡ j = omega arith in rw z (p.word ∙ ew ∙ rw q.level-is)) (less-or d j);
+          level_is = e ∙ rw (q.level_is, depth-step f j);
+          tops = λ d k. ⊎_elim (λ x. p.others (6 * d + 4) (λ y. omega arith) (λ y. omega arith) ∙ q.tops d x) (λ x. let z : d ≡ j = omega arith in rw z (p.word ∙ ew ∙ rw q.level_is)) (less-or d j);
           closes = λ d k. ⊎_elim (λ x. p.others (6 * d + 5) (λ y. omega arith) (λ y. omega arith) ∙ q.closes d x) (λ x. let z : d ≡ j = omega arith in rw z (p.next ∙ ev)) (less-or d j);
         }
 
@@ -82,7 +82,7 @@ module _ (f : ℕ → Token) (n : ℕ) where
   -- ---- what is counted
 
   pub counted-begin : CountedFrom f n n (record { length = 0; newlines = 0; forbidden = 0; top = n })
-  counted-begin = record { up_to = omega arith; length-is = omega arith; newlines_is = omega arith; forbidden-is = omega arith; top-is = first-none (top_at f) n }
+  counted-begin = record { up_to = omega arith; length_is = omega arith; newlines_is = omega arith; forbidden_is = omega arith; top_is = first-none (top_at f) n }
 
   top-on : (j m : ℕ) (b : Bool) → top_at f j ≡ b → j < n → First (top_at f) (j + 1) n m → First (top_at f) j n (if b then j else m)
   top-on j m true e h q = first-hit (top_at f) n j h e
@@ -95,26 +95,26 @@ module _ (f : ℕ → Token) (n : ℕ) where
         let a = size_step f j in
         let b = count-step (newline_at f) j in
         let c = count-step (forbidden_at f) j in
-        let d = q.length-is in
+        let d = q.length_is in
         let e = q.newlines_is in
-        let g = q.forbidden-is in
+        let g = q.forbidden_is in
         record {
           up_to = omega arith;
-          length-is = omega arith;
+          length_is = omega arith;
           newlines_is = omega arith;
-          forbidden-is = omega arith;
-          top-is = rw et (top-on j s.top (top_at f j) refl h q.top-is);
+          forbidden_is = omega arith;
+          top_is = rw et (top-on j s.top (top_at f j) refl h q.top_is);
         }
 
   module _ (j : ℕ) (s : Counted) (r : Short f n) (q : CountedFrom f n j s) where
     pub length-small : s.length ≤ 67108864
-    length-small = let a = size_small f n r in let b = q.length-is in omega arith
+    length-small = let a = size_small f n r in let b = q.length_is in omega arith
 
     pub newlines_small : s.newlines ≤ 1024
     newlines_small = let a = count_most (newline_at f) n in let b = q.newlines_is in let c = r.few in omega arith
 
     pub forbidden-small : s.forbidden ≤ 1024
-    forbidden-small = let a = count_most (forbidden_at f) n in let b = q.forbidden-is in let c = r.few in omega arith
+    forbidden-small = let a = count_most (forbidden_at f) n in let b = q.forbidden_is in let c = r.few in omega arith
 
     -- ---- the row of a close
 
@@ -122,7 +122,7 @@ module _ (f : ℕ → Token) (n : ℕ) where
     close_row l w e g =
         let a = forbidden-small in
         let x = high-of w s.newlines s.forbidden g (omega arith) in
-        let y = low_of w s.newlines s.forbidden g (omega arith) in record { length-is = e; newlines_is = rw x q.newlines_is; forbidden-is = rw y q.forbidden-is }
+        let y = low_of w s.newlines s.forbidden g (omega arith) in record { length_is = e; newlines_is = rw x q.newlines_is; forbidden_is = rw y q.forbidden_is }
 
   close-part : (p : Part) (b : Bool) → (is_close p && b) ≡ true → p ≡ part.Close
   close-part part.Top b h = absurd (true_false h refl)
@@ -138,13 +138,13 @@ module _ (f : ℕ → Token) (n : ℕ) where
     pub end_close : (x v : ℕ) → m < n → x ≡ word_of a m 0 → v ≡ word_of a m 1 → EndedAt f n m (record { length = x; newlines = v / 65536; forbidden = v % 65536 })
     end_close x v h ex ev =
         let r = (w.rows m (omega arith) h).close (close-part (part_at f m) (eqb (depth f m) (d + 1)) (q.here h)) in
-        let e : min (m + 1) n ≡ m + 1 = omega arith in record { length-is = rw (e, ex) r.length-is; newlines_is = rw ev r.newlines_is; forbidden-is = rw ev r.forbidden-is }
+        let e : min (m + 1) n ≡ m + 1 = omega arith in record { length_is = rw (e, ex) r.length_is; newlines_is = rw ev r.newlines_is; forbidden_is = rw ev r.forbidden_is }
 
     pub end_none : n ≤ m → EndedAt f n m (record { length = 0; newlines = 0; forbidden = 0 })
     end_none h =
         let u = q.up_to in
         let e : m ≡ n = omega arith in
-        let g : min (n + 1) n ≡ n = omega arith in record { length-is = rw (e, g) (omega arith); newlines_is = rw e (omega arith); forbidden-is = rw e (omega arith) }
+        let g : min (n + 1) n ≡ n = omega arith in record { length_is = rw (e, g) (omega arith); newlines_is = rw e (omega arith); forbidden_is = rw e (omega arith) }
 
   -- ---- the row of an opening bracket
 
@@ -160,24 +160,24 @@ module _ (f : ℕ → Token) (n : ℕ) where
     block_long =
         let u = q.past in
         let a = size-le f i (min (m + 1) n) (omega arith) in
-        let b = c.length-is in
-        let d = g.length-is in omega arith
+        let b = c.length_is in
+        let d = g.length_is in omega arith
 
     pub open_row : (span w : ℕ) → span ≡ span_from f (i + 1) m 0 → w ≡ span * 4 + (if ltb e.forbidden s.forbidden then 2 else 0) + (if ltb e.newlines s.newlines then 1 else 0) → OpenRow f n i (s.length - e.length) w
     open_row span w es ew =
         let r = block_facts f n i m o h q in
-        let l = r.length-is in
-        let b = c.length-is in
-        let d = g.length-is in
-        let cf = c.forbidden-is in
-        let gf = g.forbidden-is in
+        let l = r.length_is in
+        let b = c.length_is in
+        let d = g.length_is in
+        let cf = c.forbidden_is in
+        let gf = g.forbidden_is in
         let cn = c.newlines_is in
         let gn = g.newlines_is in
         let x = ltb-swap e.forbidden s.forbidden (count (forbidden_at f) i) (count (forbidden_at f) m) (omega arith) in
         let y = ltb-swap e.newlines s.newlines (count (newline_at f) i) (count (newline_at f) m) (omega arith) in
         record {
-          length-is = omega arith;
-          facts = ew ∙ rw (r.span-is, r.forbidden-is, r.reserved-is, x, y, es);
+          length_is = omega arith;
+          facts = ew ∙ rw (r.span_is, r.forbidden_is, r.reserved_is, x, y, es);
         }
 
 -- ---- the table when all tokens are taken
@@ -186,5 +186,5 @@ pub all_blocks : (s : List ℕ) (base n : ℕ) (t : List ℕ) → Rows (token_of
 all_blocks s base n t q = record {
   blocks = λ i h k.
       let r = (q.written.rows i (omega arith) h).opens (rw k) in
-      let e = tokens-step s base i n h in record { length = rw e at r.length-is; facts = rw e at r.facts };
+      let e = tokens-step s base i n h in record { length = rw e at r.length_is; facts = rw e at r.facts };
 }

@@ -47,16 +47,16 @@ module _ (f : ℕ → Token) (n : ℕ) where
   pub top-words : (t u : ℕ) (s : Counted) (p : Step) → n ≤ 1024 → CountedFrom f n (t + 1) s → First (top_of f (depth f t)) (t + 1) n u → (p.last < n → Segment f n t p) → (p.last ≤ n) × (p.resume ≤ n)
       → TopRow f n t s.length (u * 65536 + s.top) p.best (p.last * 65536 + p.resume)
   top-words t u s p few c q g l =
-      let m = c.top-is.up_to in
+      let m = c.top_is.up_to in
       let r = l.1 in
       let hw = high-of (u * 65536 + s.top) u s.top refl (omega arith) in
       let lw = low_of (u * 65536 + s.top) u s.top refl (omega arith) in
       let hy = high-of (p.last * 65536 + p.resume) p.last p.resume refl (omega arith) in
       let ly = low_of (p.last * 65536 + p.resume) p.last p.resume refl (omega arith) in
       record {
-        length-is = c.length-is;
-        next-is = rw hw q;
-        after_is = rw lw c.top-is;
+        length_is = c.length_is;
+        next_is = rw hw q;
+        after_is = rw lw c.top_is;
         segment = λ k. let k2 : p.last < n = rw hy at k in rw (hy, ly) (g k2);
       }
 

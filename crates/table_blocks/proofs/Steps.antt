@@ -49,13 +49,13 @@ module _ (f : ℕ → Token) (n : ℕ) where
 
     pub shorter : word_of a u 0 ≤ length
     shorter =
-        let e = row.length-is in
+        let e = row.length_is in
         let p = q.past in
         let m = size-le f (t + 1) (u + 1) (omega arith) in omega arith
 
     pub one-segment : Segment f n t (record { best = length - word_of a u 0; last = u; resume = word_of a u 1 % 65536 })
     one-segment =
-        let e = row.length-is in
+        let e = row.length_is in
         let p = q.past in
         let r = row.after_is in
         let y = r.past in
@@ -88,7 +88,7 @@ module _ (f : ℕ → Token) (n : ℕ) where
         }
 
     pub step-next : (u v : ℕ) → v ≡ word_of a t 1 → u ≡ v / 65536 → First (top_of f (depth f t)) (t + 1) n u
-    step-next u v ev eu = rw (eu, ev) here.next-is
+    step-next u v ev eu = rw (eu, ev) here.next_is
 
     pub step-one : (s : Step) (u : ℕ) → u < e → Segment f n t s → s.last ≡ u → Stepped f n t e s
     step-one s u c g k = record { up_to = omega arith; goes = λ d. g; stuck = λ d b. absurd (omega arith) }

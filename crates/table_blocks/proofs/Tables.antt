@@ -178,7 +178,7 @@ module _ (f : ℕ → Token) (n : ℕ) where
         let r = top-row f n a t q.written g i o in
         rw (p.others (6 * t + 0) (λ e. omega arith) (λ e. omega arith), p.others (6 * t + 1) (λ e. omega arith) (λ e. omega arith), p.word, p.next)
         (record {
-          top = λ e. record { length-is = r.length-is; next-is = r.next-is; after_is = r.after_is; segment = λ u. s };
+          top = λ e. record { length_is = r.length_is; next_is = r.next_is; after_is = r.after_is; segment = λ u. s };
           close = λ e. absurd (true_false o (rw e));
           opens = λ e. absurd (true_false o (rw e));
         })

@@ -20,10 +20,10 @@ pub record Short (f : ℕ → Token) (n : ℕ) : Type 0 where
 -- what is counted from token j on
 pub record CountedFrom (f : ℕ → Token) (n j : ℕ) (s : Counted) : Type 0 where
   pub up_to : j ≤ n
-  pub length-is : s.length + size f j ≡ size f n
+  pub length_is : s.length + size f j ≡ size f n
   pub newlines_is : s.newlines + count (newline_at f) j ≡ count (newline_at f) n
-  pub forbidden-is : s.forbidden + count (forbidden_at f) j ≡ count (forbidden_at f) n
-  pub top-is : First (top_at f) j n s.top
+  pub forbidden_is : s.forbidden + count (forbidden_at f) j ≡ count (forbidden_at f) n
+  pub top_is : First (top_at f) j n s.top
 
 -- a part of the chain of top-level words: before every cut behind its last word, walking from t is walking from the word where it resumes
 pub record Segment (f : ℕ → Token) (n t : ℕ) (s : Step) : Type 0 where
@@ -39,20 +39,20 @@ step_of w2 w3 = record { best = w2; last = w3 / 65536; resume = w3 % 65536 }
 
 -- a top-level word: the length after it, the next of its depth, the next of any, and a segment
 pub record TopRow (f : ℕ → Token) (n t w0 w1 w2 w3 : ℕ) : Type 0 where
-  pub length-is : w0 + size f (t + 1) ≡ size f n
-  pub next-is : First (top_of f (depth f t)) (t + 1) n (w1 / 65536)
+  pub length_is : w0 + size f (t + 1) ≡ size f n
+  pub next_is : First (top_of f (depth f t)) (t + 1) n (w1 / 65536)
   pub after_is : First (top_at f) (t + 1) n (w1 % 65536)
   pub segment : w3 / 65536 < n → Segment f n t (step_of w2 w3)
 
 -- a close: the length after it, and the newline words and forbidden tokens from it on
 pub record CloseRow (f : ℕ → Token) (n k w0 w1 : ℕ) : Type 0 where
-  pub length-is : w0 + size f (k + 1) ≡ size f n
+  pub length_is : w0 + size f (k + 1) ≡ size f n
   pub newlines_is : w1 / 65536 + count (newline_at f) k ≡ count (newline_at f) n
-  pub forbidden-is : w1 % 65536 + count (forbidden_at f) k ≡ count (forbidden_at f) n
+  pub forbidden_is : w1 % 65536 + count (forbidden_at f) k ≡ count (forbidden_at f) n
 
 -- an opening bracket: the facts of its block
 pub record OpenRow (f : ℕ → Token) (n i w0 w1 : ℕ) : Type 0 where
-  pub length-is : w0 ≡ (build_info (list_of f i (n - i))).length
+  pub length_is : w0 ≡ (build_info (list_of f i (n - i))).length
   pub facts : w1 ≡ facts_word (build_info (list_of f i (n - i)))
 
 pub record Row (f : ℕ → Token) (n k w0 w1 w2 w3 : ℕ) : Type 0 where
@@ -91,9 +91,9 @@ pub record Walked (f : ℕ → Token) (n t e : ℕ) (s : Step) : Type 0 where
 
 -- what is counted from the end of a block on: m is its close, whose length is the block's
 pub record EndedAt (f : ℕ → Token) (n m : ℕ) (s : End) : Type 0 where
-  pub length-is : s.length + size f (min (m + 1) n) ≡ size f n
+  pub length_is : s.length + size f (min (m + 1) n) ≡ size f n
   pub newlines_is : s.newlines + count (newline_at f) m ≡ count (newline_at f) n
-  pub forbidden-is : s.forbidden + count (forbidden_at f) m ≡ count (forbidden_at f) n
+  pub forbidden_is : s.forbidden + count (forbidden_at f) m ≡ count (forbidden_at f) n
 
 -- one word of row i is written, or two, or four
 pub record Put (t u : List ℕ) (i k v : ℕ) : Type 0 where

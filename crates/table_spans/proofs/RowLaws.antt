@@ -58,10 +58,10 @@ module _ (t : List ℕ) (i : ℕ) (f : Rests) where
   unfolding with_row
   row-holds r =
       record {
-        inner-full = sets_at (row_words f) t (6 * i) 0 (omega arith) r;
-        inner-counts = sets_at (row_words f) t (6 * i) 1 (omega arith) r;
-        outer-full = sets_at (row_words f) t (6 * i) 2 (omega arith) r;
-        outer-counts = sets_at (row_words f) t (6 * i) 3 (omega arith) r;
+        inner_full = sets_at (row_words f) t (6 * i) 0 (omega arith) r;
+        inner_counts = sets_at (row_words f) t (6 * i) 1 (omega arith) r;
+        outer_full = sets_at (row_words f) t (6 * i) 2 (omega arith) r;
+        outer_counts = sets_at (row_words f) t (6 * i) 3 (omega arith) r;
         total = sets_at (row_words f) t (6 * i) 4 (omega arith) r;
         marks = sets_at (row_words f) t (6 * i) 5 (omega arith) r;
       }
@@ -79,10 +79,10 @@ module _ (t : List ℕ) (i : ℕ) (f : Rests) where
   pub held-still : (k : ℕ) (g : Rests) → (k ≡ i → ⊥) → Holds t k g → Holds (with_row t i f) k g
   held-still k g n h =
       record {
-        inner-full = row_other k 0 n (omega arith) ∙ h.inner-full;
-        inner-counts = row_other k 1 n (omega arith) ∙ h.inner-counts;
-        outer-full = row_other k 2 n (omega arith) ∙ h.outer-full;
-        outer-counts = row_other k 3 n (omega arith) ∙ h.outer-counts;
+        inner_full = row_other k 0 n (omega arith) ∙ h.inner_full;
+        inner_counts = row_other k 1 n (omega arith) ∙ h.inner_counts;
+        outer_full = row_other k 2 n (omega arith) ∙ h.outer_full;
+        outer_counts = row_other k 3 n (omega arith) ∙ h.outer_counts;
         total = row_other k 4 n (omega arith) ∙ h.total;
         marks = row_other k 5 n (omega arith) ∙ h.marks;
       }
@@ -116,8 +116,8 @@ row_back t i f s h =
     let y : word_of t i 5 / 2048 % 2 ≡ bit_of f.outer.first = omega arith in
     let z : word_of t i 5 / 8192 ≡ f.others = omega arith in
     let w : word_of t i 5 % 2048 ≡ f.close = omega arith in
-    let u = rest_back f.inner (word_of t i 0) (word_of t i 1) (word_of t i 5 / 4096 % 2) s.inner h.inner-full h.inner-counts x in
-    let v = rest_back f.outer (word_of t i 2) (word_of t i 3) (word_of t i 5 / 2048 % 2) s.outer h.outer-full h.outer-counts y in
+    let u = rest_back f.inner (word_of t i 0) (word_of t i 1) (word_of t i 5 / 4096 % 2) s.inner h.inner_full h.inner_counts x in
+    let v = rest_back f.outer (word_of t i 2) (word_of t i 3) (word_of t i 5 / 2048 % 2) s.outer h.outer_full h.outer_counts y in
     by-fields _ _ u v h.total z w
   where
     by-fields : (g k : Rests) → g.inner ≡ k.inner → g.outer ≡ k.outer → g.total ≡ k.total → g.others ≡ k.others → g.close ≡ k.close → g ≡ k

@@ -75,7 +75,7 @@ ended-reads s base n j h =
       outer = rw e;
       total = rw e;
       others = rw e;
-      close = record { after = rw (e, p); from = omega arith; to = omega arith; at-close = λ l. absurd (omega arith) };
+      close = record { after = rw (e, p); from = omega arith; to = omega arith; at_close = λ l. absurd (omega arith) };
     }
 
 module _ (s : List ℕ) (base n j : ℕ) (f p : Rests) (h : ReadFrom 0 s base n j f) (q : ReadFrom 0 s base n (f.close + 1) p) where
@@ -94,7 +94,7 @@ module _ (s : List ℕ) (base n j : ℕ) (f p : Rests) (h : ReadFrom 0 s base n 
         outer = under-reads true p.outer q.outer;
         total = h.total;
         others = h.others;
-        close = record { after = closed-again those 0 ∙ ap (closed 0) a.after ∙ b.after; from = omega arith; to = b.to; at-close = b.at-close };
+        close = record { after = closed-again those 0 ∙ ap (closed 0) a.after ∙ b.after; from = omega arith; to = b.to; at_close = b.at_close };
       }
 
   pub through_less : p.total ≤ f.total
@@ -109,11 +109,11 @@ module _ (s : List ℕ) (base n i : ℕ) (h : i < n) where
 
   -- the close is as far off as it was
   sooner : (us : List Token) (c : ℕ) → Closes s base n (i + 1) us c → Closes s base n i us c
-  sooner us c e = record { after = e.after; from = omega arith; to = e.to; at-close = e.at-close }
+  sooner us c e = record { after = e.after; from = omega arith; to = e.to; at_close = e.at_close }
 
   front-close : (x : Sort) (c : ℕ) → sort_in here ≡ x → Closes s base n (i + 1) (closed (level_in x 0) later) c → Closes s base n i (closed_in (closes_in x 0) later (closed (level_in x 0) later)) (close_in x i c)
   front-close sort.Open c e f = sooner _ c f
-  front-close sort.Close c e f = record { after = refl; from = omega arith; to = omega arith; at-close = λ l. e }
+  front-close sort.Close c e f = record { after = refl; from = omega arith; to = omega arith; at_close = λ l. e }
   front-close sort.Head c e f = sooner _ c f
   front-close sort.White c e f = sooner _ c f
   front-close sort.Semicolon c e f = sooner _ c f
@@ -182,7 +182,7 @@ past-reads s base n i t f p q h r d e = by-eq (eqb f.close n) refl
         let w = eqb-false f.close n z in
         let a = d.close.from in
         let l : f.close < n = omega (arith, above f.close n d.close.to (λ v. w (sym v))) in
-        let c = d.close.at-close l in
+        let c = d.close.at_close l in
         let row = r.rows f.close (omega arith) l (rw c) in
         let m = row_back t f.close row.after (few-read 0 s base n (f.close + 1) row.after q row.read) row.held in
         rw e (rw (z, m) row.read)
@@ -213,8 +213,8 @@ module _ (s : List ℕ) (base n i : ℕ) (t : List ℕ) (f : Rests) (q : Readabl
         through_few = few-read 1 s base n (i + 1) g q through_is
 
         module _ (x : Sort) (len : ℕ) (o : Bool) (v : Rests) (is : x ≡ sort_in (token_of s base i)) (m : len ≡ length (token_of s base i).value) (ho : o ≡ opens_in x) where
-          pub turn-open : o ≡ true → v ≡ front_in x len i g → Given v t
-          turn-open a w =
+          pub turn_open : o ≡ true → v ≡ front_in x len i g → Given v t
+          turn_open a w =
               let y : opens_in x ≡ true = sym ho ∙ a in
               (rw w (front-open s base n i h x len is m g y through_is), (rows-open s base n i t x is r y, same_blocks s base n t))
 
@@ -223,11 +223,11 @@ module _ (s : List ℕ) (base n i : ℕ) (t : List ℕ) (f : Rests) (q : Readabl
         own-reads : ReadFrom 0 s base n i v
         own-reads = rw w (front-own s base n i h x len is m f (sym ho ∙ a) d)
 
-        pub turn-saved : (u : List ℕ) → z ≡ true → 6 * n ≤ length t → u ≡ with_row t i f → Given v u
-        turn-saved u b l c = rw c (own-reads, (rows-put s base n i t x is r f (omega arith) d, same-put s base n i t x f is (sym hz ∙ b)))
+        pub turn_saved : (u : List ℕ) → z ≡ true → 6 * n ≤ length t → u ≡ with_row t i f → Given v u
+        turn_saved u b l c = rw c (own-reads, (rows-put s base n i t x is r f (omega arith) d, same-put s base n i t x f is (sym hz ∙ b)))
 
-        pub turn-unsaved : z ≡ false → Given v t
-        turn-unsaved b = (own-reads, (rows-unsaved s base n i t x is r (sym hz ∙ b), same_blocks s base n t))
+        pub turn_unsaved : z ≡ false → Given v t
+        turn_unsaved b = (own-reads, (rows-unsaved s base n i t x is r (sym hz ∙ b), same_blocks s base n t))
 
 -- ---- the whole table
 
@@ -245,8 +245,8 @@ pub all-spans : (s : List ℕ) (base n : ℕ) (t : List ℕ) → Rows s base n 0
 all-spans s base n t r = record { spans = λ i h e o. by_level i (r.rows i (omega arith) h (rw e)) o }
   where
     by_level : (i : ℕ) → Row s base n t i → (o : ℕ) → ReadAs t i (if eqb o 0 then 2 else 0) (scan o (here_at s base n i).after (unread o))
-    by_level i w zero = read_as t i 2 0 true w.after.outer (here_at s base n i).after refl w.read.outer w.held.outer-full w.held.outer-counts
-    by_level i w (suc o) = rw (eqb-suc-zero o) (read_as t i 0 (suc o) false w.after.inner (here_at s base n i).after (sym (eqb-suc-zero o)) w.read.inner w.held.inner-full w.held.inner-counts)
+    by_level i w zero = read_as t i 2 0 true w.after.outer (here_at s base n i).after refl w.read.outer w.held.outer_full w.held.outer_counts
+    by_level i w (suc o) = rw (eqb-suc-zero o) (read_as t i 0 (suc o) false w.after.inner (here_at s base n i).after (sym (eqb-suc-zero o)) w.read.inner w.held.inner_full w.held.inner_counts)
 
 -- token i is the last that was read
 pub record Filling (s : List ℕ) (base n : ℕ) (t₀ t : List ℕ) (f : Rests) (i : ℕ) : Type 0 where

@@ -13,7 +13,7 @@ pub record Closes (s : List ℕ) (base n j : ℕ) (us : List Token) (c : ℕ) : 
   pub after : us ≡ tokens_from s base (c + 1) (n - (c + 1))
   pub from : min j n ≤ c
   pub to : c ≤ n
-  pub at-close : c < n → sort_in (token_of s base c) ≡ sort.Close
+  pub at_close : c < n → sort_in (token_of s base c) ≡ sort.Close
 
 -- f is what is read of the tokens from j of n on, d levels in
 pub record ReadFrom (d : ℕ) (s : List ℕ) (base n j : ℕ) (f : Rests) : Type 0 where

@@ -17,10 +17,10 @@ marks_of f = ((f.others * 2 + bit_of f.inner.first) * 2 + bit_of f.outer.first) 
 
 -- the row of token i holds f
 pub record Holds (t : List ℕ) (i : ℕ) (f : Rests) : Type 0 where
-  pub inner-full : word_of t i 0 ≡ f.inner.full
-  pub inner-counts : word_of t i 1 ≡ counts_of f.inner
-  pub outer-full : word_of t i 2 ≡ f.outer.full
-  pub outer-counts : word_of t i 3 ≡ counts_of f.outer
+  pub inner_full : word_of t i 0 ≡ f.inner.full
+  pub inner_counts : word_of t i 1 ≡ counts_of f.inner
+  pub outer_full : word_of t i 2 ≡ f.outer.full
+  pub outer_counts : word_of t i 3 ≡ counts_of f.outer
   pub total : word_of t i 4 ≡ f.total
   pub marks : word_of t i 5 ≡ marks_of f
 

@@ -10,17 +10,17 @@ use Rattle.rules.specs.Words.{kind_bits, class_bits, create_bit, upper_bits, pac
 
 -- the parts of a word
 pub record Parts (w kind class : ℕ) (create : Bool) : Type 0 where
-  pub kind-part : kind_bits w ≡ kind
+  pub kind_part : kind_bits w ≡ kind
   pub class_part : class_bits w ≡ class
-  pub create-part : eqb (create_bit w) 1 ≡ create
-  pub upper-part : upper_bits w ≡ 0
+  pub create_part : eqb (create_bit w) 1 ≡ create
+  pub upper_part : upper_bits w ≡ 0
 
 -- what was built has the parts it was built from
 pub built_apart : (kind class : ℕ) (create : Bool) → kind < 32 → class < 4 → Parts (packed_of kind class create) kind class create
 built_apart kind class true hk hc =
-    record { kind-part = omega arith; class_part = omega arith; create-part = eq-eqb (create_bit (packed_of kind class true)) 1 (omega arith); upper-part = omega arith }
+    record { kind_part = omega arith; class_part = omega arith; create_part = eq-eqb (create_bit (packed_of kind class true)) 1 (omega arith); upper_part = omega arith }
 built_apart kind class false hk hc =
-    record { kind-part = omega arith; class_part = omega arith; create-part = ne_eqb (create_bit (packed_of kind class false)) 1 (λ e. omega arith); upper-part = omega arith }
+    record { kind_part = omega arith; class_part = omega arith; create_part = ne_eqb (create_bit (packed_of kind class false)) 1 (λ e. omega arith); upper_part = omega arith }
 
 -- a bit at its place
 bit : (b : ℕ) → b < 2 → (if eqb b 1 then 128 else 0) ≡ b * 128

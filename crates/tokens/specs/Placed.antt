@@ -10,7 +10,7 @@ pub record Inside (s : List ℕ) (base : ℕ) (p : Place) : Type 0 where
 
 -- so do the value of token i and its name, if it has one
 pub record Within (s : List ℕ) (base i : ℕ) : Type 0 where
-  pub record-in : tokens_at + 20 * i + 20 ≤ length s
+  pub record_in : tokens_at + 20 * i + 20 ≤ length s
   pub value_in : Inside s base (token_at s i).value
   pub name_in : (p : Place) → (token_at s i).key ≡ key.Named p → Inside s base p
 

@@ -127,7 +127,7 @@ by_turned i level before after sp n from to noted six hl hf ht hn hs =
     let high = level-within to ht.clean in
     let out : level - (i.nkinds - from.nkinds) ≡ indent_level false (indentation_of from) = omega arith in
     let into : (level - (i.nkinds - from.nkinds)) + (to.nkinds - from.nkinds) ≡ indent_level false (indentation_of to) = omega arith in
-    record { out = out ∙ rw hf.is; out-low = omega arith; six = hs ∙ rw hf.is; into = into ∙ rw (ht.is, hf.is); into-low = omega arith; stands = rw (← hf.is, ← ht.is) hn }
+    record { out = out ∙ rw hf.is; out_low = omega arith; six = hs ∙ rw hf.is; into = into ∙ rw (ht.is, hf.is); into_low = omega arith; stands = rw (← hf.is, ← ht.is) hn }
 
 module _ (i : Indentation ℕ) (before after : Bool) (sp : SpanInfo) where
   out-words : (w : ℕ → List ℕ) → on_words w (out_of before i) ≡ when before decrease_top_level (on_words w i)

@@ -16,8 +16,8 @@ into_of before after sp i = when after (increase_top_level sp) (out_of before i)
 -- the word is n
 pub record Turned (i : Indentation ℕ) (before after : Bool) (sp : SpanInfo) (n : ℕ) (r : Levels) : Type 0 where
   pub out : r.out ≡ indent_level false (out_of before i)
-  pub out-low : r.out ≤ 128
+  pub out_low : r.out ≤ 128
   pub six : r.six ≡ full (out_of before i).indent_types
   pub into : r.into ≡ indent_level false (into_of before after sp i)
-  pub into-low : r.into ≤ 128
+  pub into_low : r.into ≤ 128
   pub stands : Stands (set_previous_top_level n sp (into_of before after sp i)) r.stacks

@@ -23,7 +23,7 @@ once-nine false a p h e = h e
 
 pub room-enough : (s : List ℕ) (r : Outcome) → r ≡ room_for s → Enough s r
 unfolding once once_listed once_as
-room-enough s r e = record { never-nine = λ n l. never n (rw e at l) }
+room-enough s r e = record { never_nine = λ n l. never n (rw e at l) }
   where
     never : (n : ℕ) → (room_for s).length ≤ n → NeverNine s n
     never n l =

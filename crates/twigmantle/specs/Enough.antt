@@ -14,4 +14,4 @@ pub record NeverNine (s : List ℕ) (n : ℕ) : Type 0 where
 
 -- of the call's outcome
 pub record Enough (s : List ℕ) (r : Outcome) : Type 0 where
-  pub never-nine : (n : ℕ) → r.length ≤ n → NeverNine s n
+  pub never_nine : (n : ℕ) → r.length ≤ n → NeverNine s n

@@ -44,7 +44,7 @@ no-refusal (refusal n q) v p z = absurd (let m = p.0 in omega arith)
 -- the sheet is sound, and the answer is its run's
 record Sound (s : List ℕ) (room : ℕ) (c : Checked) (a : Answer) : Type 0 where
   pub counts : Counts
-  pub found-so : c ≡ found.Sound counts
+  pub found_so : c ≡ found.Sound counts
   pub formats : format (env_of s counts room) (tokens_of s counts) ≡ a
 
 sound-laid : (s : List ℕ) (room : ℕ) (c : Checked) (b : List ℕ) (l w : ℕ) → answer_as s room c ≡ laid b l w → Sound s room c (laid b l w)
@@ -53,7 +53,7 @@ sound-laid s room (found.Sound c) b l w e = go (is_withdrawn s) e
   where
     go : (f : Bool) → (if f then refusal 14 28 else format (env_of s c room) (tokens_of s c)) ≡ laid b l w → Sound s room (found.Sound c) (laid b l w)
     go true e = absurd (let z : ◌≡◌ {A = ℕ} 0 1 = cc in omega arith)
-    go false e = record { counts = c; found-so = refl; formats = e }
+    go false e = record { counts = c; found_so = refl; formats = e }
 sound-laid s room found.Size b l w e = absurd (let z : ◌≡◌ {A = ℕ} 0 1 = cc in omega arith)
 sound-laid s room (found.Word p) b l w e = absurd (let z : ◌≡◌ {A = ℕ} 0 1 = cc in omega arith)
 sound-laid s room (found.Place p) b l w e = absurd (let z : ◌≡◌ {A = ℕ} 0 1 = cc in omega arith)
@@ -84,16 +84,16 @@ back s room k z =
     let a : Laid (answer s room) = no-refusal (answer s room) (due_in s (checked s)) (by-checked s room (checked s)) (rw first at z) in
     let r : Sound s room (checked s) (laid a.text a.lines a.width) = sound-laid s room (checked s) a.text a.lines a.width a.is in
     let c : Counts = r.counts in
-    let counted : c ≡ counts_of s = (sound-sheeted s c r.found-so).counted in
+    let counted : c ≡ counts_of s = (sound-sheeted s c r.found_so).counted in
     let answers : listed s room k ≡ laid a.text a.lines a.width = first ∙ a.is in
-    let lists = in_list s room k (checked s) c a.text a.lines a.width r.found-so answers in
+    let lists = in_list s room k (checked s) c a.text a.lines a.width r.found_so answers in
     record {
       text = a.text;
       lines = a.lines;
       width = a.width;
       formats = rw (← counted) r.formats;
       shows = in_buffer room (listed s room k) a.text a.lines a.width answers;
-      reads = rw (← counted) (rows-read s c room k (list_after s room k) r.found-so (list_length s room k) lists);
+      reads = rw (← counted) (rows-read s c room k (list_after s room k) r.found_so (list_length s room k) lists);
     }
 
 -- ---- two sheets
@@ -124,7 +124,7 @@ module _ (s t : List ℕ) (alike : Alike s t) where
   unfolding env_of firm_in
   runs_same room room' =
       rw (← others-so room', ← tokens-same)
-      (left-same (options_of s) (keeps_of s (counts_of s)) (params_of s (counts_of s)) (params_of t (counts_of t)) room room' shapes alike.firm-one alike.firm-other (tokens_of s (counts_of s)))
+      (left-same (options_of s) (keeps_of s (counts_of s)) (params_of s (counts_of s)) (params_of t (counts_of t)) room room' shapes alike.firm_one alike.firm_other (tokens_of s (counts_of s)))
 
   module _ (room k room' k' : ℕ) (x : Back s room k) (y : Back t room' k') where
     tokens-unmoved : map (λ (r : Row). r.token) (rows_of s (called plain s room k)) ≡ map (λ (r : Row). r.token) (rows_of t (called plain t room' k'))

@@ -28,10 +28,10 @@ pub record Pair : Type 0 where
 
 -- which of the other premises hold, and whether the end does
 pub record Judged : Type 0 where
-  pub firm-one : Bool
-  pub firm-other : Bool
-  pub refusal-one : ℕ
-  pub refusal-other : ℕ
+  pub firm_one : Bool
+  pub firm_other : Bool
+  pub refusal_one : ℕ
+  pub refusal_other : ℕ
   pub unmoved : Bool
 
 -- the rows' tokens, and their entries in words
@@ -47,10 +47,10 @@ other_of p = called plain p.other ample 15
 abbrev pub judge : Pair → Judged
 judge p =
     record {
-      firm-one = firm_in p.one;
-      firm-other = firm_in p.other;
-      refusal-one = (one_of p).report.refusal;
-      refusal-other = (other_of p).report.refusal;
+      firm_one = firm_in p.one;
+      firm_other = firm_in p.other;
+      refusal_one = (one_of p).report.refusal;
+      refusal_other = (other_of p).report.refusal;
       unmoved = same (left_of p.one (one_of p)) (left_of p.other (other_of p)) && same (told p.one (one_of p)) (told p.other (other_of p));
     }
 
@@ -152,7 +152,7 @@ apart = unfirm ++ unlike ++ unlaid
 
 -- but for the first one's values and refusal all holds; the end does not
 abbrev only : Bool → ℕ → Judged
-only firm refusal = record { firm-one = firm; firm-other = true; refusal-one = refusal; refusal-other = 0; unmoved = false }
+only firm refusal = record { firm_one = firm; firm_other = true; refusal_one = refusal; refusal_other = 0; unmoved = false }
 
 abbrev pub wanted : List Judged
 wanted = map (λ p. only false 0) unfirm ++ map (λ p. only true 0) unlike ++ map (λ p. only true 9) unlaid
@@ -182,7 +182,7 @@ pub together-alike : map (λ (p : Pair). common_of p.one) together ≡ map (λ (
 unfolding computed computed_list encode common_of shape
 together-alike = refl
 
-pub together-judged : map judge together ≡ map (λ p. record { firm-one = true; firm-other = true; refusal-one = 0; refusal-other = 0; unmoved = true }) together
+pub together-judged : map judge together ≡ map (λ p. record { firm_one = true; firm_other = true; refusal_one = 0; refusal_other = 0; unmoved = true }) together
 unfolding computed computed_list encode common_of shape values firm all_firm firm_in called rows_of removed left left_of start_at len_at entry_of row_of row_at rows_in
 together-judged = refl
 

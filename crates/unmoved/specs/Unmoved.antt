@@ -57,8 +57,8 @@ firm_in s = all_firm (values (params_of s (counts_of s)))
 -- what is asked of the two, besides that both are laid out
 pub record Alike (s t : List ℕ) : Type 0 where
   pub common : common_of s ≡ common_of t
-  pub firm-one : firm_in s ≡ true
-  pub firm-other : firm_in t ≡ true
+  pub firm_one : firm_in s ≡ true
+  pub firm_other : firm_in t ≡ true
 
 -- ---- what a call with a list leaves
 

@@ -33,7 +33,7 @@ use Rattle.indentation.specs.declared.TopLevel.TheVariants as top
 use Rattle.rules.specs.Bytes.{bytes as text}
 use Rattle.state.specs.Below.{WordBelow}
 use Rattle.state.proofs.Below.{none_below}
-use Rattle.state.proofs.Laws.{by_value, by-halves, level-is, value-is}
+use Rattle.state.proofs.Laws.{by_value, by-halves, level_is, value-is}
 use Rattle.values.specs.Comma.{limit_in, breaks_in}
 use Rattle.values.specs.On.{on_value}
 
@@ -75,7 +75,7 @@ module _ (s : List ℕ) (x : Context) (i : ℕ) (st : Code) (d : List ℕ) (read
   unfolding env_of
   by-comma active b level ha hb hl laid m =
       by_value s x i (on_value format_comma) st d ready (λ w. Query.comma (length d) x.options w b level) v t r q e laid m
-      (rw (ready.known.options, comma-breaks b (hb ∙ rw ha), hl ∙ sym (level-is s x.base st d false)) (halves.comma (env_in s x (length d)) (word_of s x.base i) now))
+      (rw (ready.known.options, comma-breaks b (hb ∙ rw ha), hl ∙ sym (level_is s x.base st d false)) (halves.comma (env_in s x (length d)) (word_of s x.base i) now))
 
 -- ---- the tests of a comma
 

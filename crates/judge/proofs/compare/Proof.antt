@@ -34,7 +34,7 @@ token-at-requires : tie.Need-token-at-requires invariant-loop decreases-loop
 token-at-requires c κs =
     let start = c.before.before.before.before.before.before.before in
     let l = c.before.loop in
-    (token-within start.args.sheet.now start.args.c (body_at start.args.c) l.i start.requires refl c.loop-test.true).record-in
+    (token-within start.args.sheet.now start.args.c (body_at start.args.c) l.i start.requires refl c.loop-test.true).record_in
 
 turn-at-requires : tie.Need-turn-at-requires invariant-loop decreases-loop
 turn-at-requires c κs =
@@ -54,14 +54,14 @@ due-of-requires c κs =
 reach-due-requires : tie.Need-reach-due-requires invariant-loop decreases-loop
 reach-due-requires c κs =
     let start = c.before.before.before.before.before.before.before.before.before.before in
-    (start.requires, c.due-of.ensures.place_in, c.before.before.before.before.loop.invariant.at_in)
+    (start.requires, c.due_of.ensures.place_in, c.before.before.before.before.loop.invariant.at_in)
 
 returns : tie.Need-returns invariant-loop decreases-loop
 returns c =
     let start = c.before.before.before.before.before.before.before.before.before.before.before.before.before in
     let l = c.before.before.before.before.before.before.before.loop in
     let b = c.before.before.before.before.before.before.before.before.before.before.body_at in
-    walking_no start.args.sheet.now start.args.c start.args.text.now l.at l.index l.i (switch_of l.switch) l.invariant c.before.before.before.before.before.before.loop-test.true b.result b.ensures _ c.before.before.before.before.before.token-at.ensures _ c.before.before.before.before.turn_at.ensures _ c.before.before.before.due-of.ensures _ c.before.before.reach-due.ensures (not-true _ c.if1.true)
+    walking_no start.args.sheet.now start.args.c start.args.text.now l.at l.index l.i (switch_of l.switch) l.invariant c.before.before.before.before.before.before.loop-test.true b.result b.ensures _ c.before.before.before.before.before.token-at.ensures _ c.before.before.before.before.turn_at.ensures _ c.before.before.before.due_of.ensures _ c.before.before.reach-due.ensures (not-true _ c.if1.true)
 
 after-requires : tie.Need-after-requires invariant-loop decreases-loop
 after-requires c κs = search rules
@@ -77,7 +77,7 @@ loop-again c =
     let start = c.before.before.before.before.before.before.before.before.before.before.before.before.before.before in
     let l = c.before.before.before.before.before.before.before.before.loop in
     let b = c.before.before.before.before.before.before.before.before.before.before.before.body_at in
-    walking_on start.args.sheet.now start.args.c start.args.text.now l.at l.index l.i (switch_of l.switch) l.invariant c.before.before.before.before.before.before.before.loop-test.true b.result b.ensures _ c.before.before.before.before.before.before.token-at.ensures _ c.before.before.before.before.before.turn_at.ensures _ c.before.before.before.before.due-of.ensures _ c.before.before.before.reach-due.ensures (not-false _ c.before.if1.false) _ c.after.ensures
+    walking_on start.args.sheet.now start.args.c start.args.text.now l.at l.index l.i (switch_of l.switch) l.invariant c.before.before.before.before.before.before.before.loop-test.true b.result b.ensures _ c.before.before.before.before.before.before.token-at.ensures _ c.before.before.before.before.before.turn_at.ensures _ c.before.before.before.before.due_of.ensures _ c.before.before.before.reach-due.ensures (not-false _ c.before.if1.false) _ c.after.ensures
 
 only-white-requires : tie.Need-only-white-requires invariant-loop decreases-loop
 only-white-requires c κs = search rules

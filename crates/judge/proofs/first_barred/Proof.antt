@@ -28,7 +28,7 @@ token-at-requires : tie.Need-token-at-requires invariant-loop decreases-loop
 token-at-requires c κs =
     let start = c.before.before.before.before.before in
     let l = c.before.loop in
-    (token-within start.args.sheet.now start.args.c (body_at start.args.c) l.i start.requires refl c.loop-test.true).record-in
+    (token-within start.args.sheet.now start.args.c (body_at start.args.c) l.i start.requires refl c.loop-test.true).record_in
 
 turn-at-requires : tie.Need-turn-at-requires invariant-loop decreases-loop
 turn-at-requires c κs =

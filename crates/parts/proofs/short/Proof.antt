@@ -3,7 +3,7 @@ use mathlib.Core.Path.{◌≡◌, ◌∙◌}
 use Prim.Native.Nat.{◌-◌, ◌*◌}
 use native.Mathlib.Omega.{arith}
 use Rattle.ascii.specs.Part.{part}
-use Rattle.parts.proofs.ShortLaws.{Narrows, none-narrow, narrow-more, narrow-fed, narrows_on, all-narrow, a-wide-line, known-too}
+use Rattle.parts.proofs.ShortLaws.{Narrows, none-narrow, narrow-more, narrow-fed, narrows_on, all-narrow, a_wide_line, known-too}
 use Rattle.parts.proofs.short.Statement.{statement}
 use Rattle.parts.proofs.short.Tie as tie
 
@@ -61,7 +61,7 @@ returns c =
     let a = first.args in
     let v = part a.text.now a.start (16 * a.far) in
     let w = wide.first-wide.ensures.2 c.before.before.if1.true in
-    let there = a-wide-line a.text.now a.start a.far l.j wide.first-wide.result l.c l.h l.g l.feeds a.from (search rules) l.invariant (search rules) c.before.before.if1.true w in
+    let there = a_wide_line a.text.now a.start a.far l.j wide.first-wide.result l.c l.h l.g l.feeds a.from (search rules) l.invariant (search rules) c.before.before.if1.true w in
     c.long.ensures ∙ known-too a.from _ v c.before.larger.ensures there
 
 raise-requires : tie.Need-raise-requires invariant-loop decreases-loop

@@ -20,7 +20,7 @@ loop-holds c = search (rules, all-begins)
 kind-at-requires : tie.Need-kind-at-requires invariant-loop decreases-loop
 kind-at-requires c κs =
     let a = c.before.before.before.args in
-    (token-within a.sheet.now a.c (body_at a.c) c.before.loop.i c.before.before.before.requires refl c.loop-test.true).record-in
+    (token-within a.sheet.now a.c (body_at a.c) c.before.loop.i c.before.before.before.requires refl c.loop-test.true).record_in
 
 is-placeholder-requires : tie.Need-is-placeholder-requires invariant-loop decreases-loop
 is-placeholder-requires c κs = search rules

@@ -27,7 +27,7 @@ loop-holds c = search (rules, count-begins)
 kind-at-requires : tie.Need-kind-at-requires invariant-loop decreases-loop
 kind-at-requires c κs =
     let a = c.before.before.before.before.before.args in
-    (token-within a.sheet.now a.c (body_at a.c) c.before.loop.i c.before.before.before.before.before.requires refl c.loop-test.true).record-in
+    (token-within a.sheet.now a.c (body_at a.c) c.before.loop.i c.before.before.before.before.before.requires refl c.loop-test.true).record_in
 
 turn-at-requires : tie.Need-turn-at-requires invariant-loop decreases-loop
 turn-at-requires c κs =

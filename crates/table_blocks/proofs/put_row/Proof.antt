@@ -41,7 +41,7 @@ put-close-requires c κs =
     let a = s.args in
     let p = s.requires in
     let f = token_of a.sheet.now a.base in
-    (p.1.0, ((p.1.1.0, c.before.before.before.count-in.ensures, p.1.1.1.length-is), sym (c.before.before.before.before.part-of.ensures ∙ ap part_of c.before.before.before.before.before.kind_at.ensures) ∙ c.before.enum-told2.given.1))
+    (p.1.0, ((p.1.1.0, c.before.before.before.count-in.ensures, p.1.1.1.length_is), sym (c.before.before.before.before.part-of.ensures ∙ ap part_of c.before.before.before.before.before.kind_at.ensures) ∙ c.before.enum-told2.given.1))
 
 enum-told-3 : tie.Need-enum-told-3
 enum-told-3 c = search rules
@@ -52,7 +52,7 @@ put-open-requires c κs =
     let a = s.args in
     let p = s.requires in
     let f = token_of a.sheet.now a.base in
-    (p.1.0, ((p.1.1.0, c.before.before.before.count-in.ensures, p.1.1.1.top-is), sym (c.before.before.before.before.part-of.ensures ∙ ap part_of c.before.before.before.before.before.kind_at.ensures) ∙ c.before.enum-told3.given.1))
+    (p.1.0, ((p.1.1.0, c.before.before.before.count-in.ensures, p.1.1.1.top_is), sym (c.before.before.before.before.part-of.ensures ∙ ap part_of c.before.before.before.before.before.kind_at.ensures) ∙ c.before.enum-told3.given.1))
 
 enum-told-4 : tie.Need-enum-told-4
 enum-told-4 c = search rules

@@ -32,7 +32,7 @@ first-step-requires c κs =
     let a = s.args in
     let p = s.requires in
     let f = token_of a.sheet.now a.base in
-    (p.0.written, ((p.1.0.1.length-is, rw p.1.1), next-at f a.n (a.t + 1) a.t c.before.before.before.before.before.word.result c.before.before.before.before.low.result a.table.now p.0 p.1.0.0 c.before.before.before.before.before.word.ensures c.before.before.before.before.low.ensures c.before.before.word2.result c.before.high.result c.before.before.word2.ensures c.before.high.ensures))
+    (p.0.written, ((p.1.0.1.length_is, rw p.1.1), next-at f a.n (a.t + 1) a.t c.before.before.before.before.before.word.result c.before.before.before.before.low.result a.table.now p.0 p.1.0.0 c.before.before.before.before.before.word.ensures c.before.before.before.before.low.ensures c.before.before.word2.result c.before.high.result c.before.before.word2.ensures c.before.high.ensures))
 
 put-chain-requires : tie.Need-put-chain-requires
 put-chain-requires c κs =
@@ -44,7 +44,7 @@ put-chain-requires c κs =
     let l = p.0.written.long in
     let h = p.1.0.0 in
     let u = (next-at f a.n (a.t + 1) a.t c.before.before.before.before.before.before.before.word.result c.before.before.before.before.before.before.low.result a.table.now p.0 p.1.0.0 c.before.before.before.before.before.before.before.word.ensures c.before.before.before.before.before.before.low.ensures c.before.before.before.before.word2.result c.before.before.before.high.result c.before.before.before.before.word2.ensures c.before.before.before.high.ensures).up_to in
-    let t = p.1.0.1.top-is.up_to in
+    let t = p.1.0.1.top_is.up_to in
     let w = c.before.first_step.ensures.1.0 in
     let r = c.before.first_step.ensures.1.1 in (omega arith, (omega arith, omega arith, omega arith, omega arith))
 

@@ -45,7 +45,7 @@ one-step-requires c κs =
     let q = step-next f a.n a.t a.e a.table.now p.0 p.1.0 p.1.1 p.1.2 _ w.result w.ensures c.before.before.high2.ensures in
     let o = q.past in
     let r = top-row f a.n a.table.now a.t p.0 (omega arith) (omega arith) p.1.2 in
-    (written_on f a.n (omega arith) p.0, ((omega arith, rw c.word4.ensures r.length-is, p.1.2), q))
+    (written_on f a.n (omega arith) p.0, ((omega arith, rw c.word4.ensures r.length_is, p.1.2), q))
 
 returns-2 : tie.Need-returns-2
 returns-2 c =

@@ -2,7 +2,7 @@ use native.Mathlib.Omega.{arith}
 use Rattle.around.proofs.Readable.{readable_within}
 use Rattle.around.proofs.Lists.{readable_length}
 use Rattle.table_spans.proofs.Bounds.{few-read}
-use Rattle.table_spans.proofs.Turns.{past-few, past-less, through_few, turn-open, turn-saved, turn-unsaved}
+use Rattle.table_spans.proofs.Turns.{past-few, past-less, through_few, turn_open, turn_saved, turn_unsaved}
 use borrow.Author.Rules.{rules}
 use Rattle.table_spans.proofs.turn.Statement.{statement}
 use Rattle.table_spans.proofs.turn.Tie as tie
@@ -39,7 +39,7 @@ returns c =
     let w = c.before.before.before.before.before.before.before.before.before.before in
     let p = w.requires in
     let o = c.before.before.before.before.before in
-    turn-open _ _ _ _ _ _ p.0 p.1.0.0 p.1.1.0 p.1.1.1 _ c.before.before.past.ensures _ c.before.through.ensures _ _ _ _ o.before.before.sort-at.ensures o.before.value_len.ensures o.opens.ensures c.before.before.before.before.if1.true c.in-front.ensures
+    turn_open _ _ _ _ _ _ p.0 p.1.0.0 p.1.1.0 p.1.1.1 _ c.before.before.past.ensures _ c.before.through.ensures _ _ _ _ o.before.before.sort-at.ensures o.before.value_len.ensures o.opens.ensures c.before.before.before.before.if1.true c.in-front.ensures
 
 saves-requires : tie.Need-saves-requires
 saves-requires c κs = search rules
@@ -65,7 +65,7 @@ returns-2 c =
     let p = w.requires in
     let o = c.before.before.before.before.before.before.before.before in
     let m = c.before.before.before.put-row in
-    turn-saved _ _ _ _ _ _ p.0 p.1.0.0 p.1.1.0 p.1.1.1 _ _ _ _ o.before.before.sort-at.ensures o.before.value_len.ensures o.opens.ensures _ c.before.before.before.before.before.before.saves.ensures c.before.before.before.before.before.before.before.if1.false c.in-front2.ensures m.new.0 c.before.before.before.before.before.if2.true p.1.0.1 m.ensures
+    turn_saved _ _ _ _ _ _ p.0 p.1.0.0 p.1.1.0 p.1.1.1 _ _ _ _ o.before.before.sort-at.ensures o.before.value_len.ensures o.opens.ensures _ c.before.before.before.before.before.before.saves.ensures c.before.before.before.before.before.before.before.if1.false c.in-front2.ensures m.new.0 c.before.before.before.before.before.if2.true p.1.0.1 m.ensures
 
 in-front-requires-3 : tie.Need-in-front-requires-3
 in-front-requires-3 c κs =
@@ -78,7 +78,7 @@ returns-3 c =
     let w = c.before.before.before.before.before.before.before.before.before in
     let p = w.requires in
     let o = c.before.before.before.before in
-    turn-unsaved _ _ _ _ _ _ p.0 p.1.0.0 p.1.1.0 p.1.1.1 _ _ _ _ o.before.before.sort-at.ensures o.before.value_len.ensures o.opens.ensures _ c.before.before.saves.ensures c.before.before.before.if1.false c.in-front3.ensures c.before.if2.false
+    turn_unsaved _ _ _ _ _ _ p.0 p.1.0.0 p.1.1.0 p.1.1.1 _ _ _ _ o.before.before.sort-at.ensures o.before.value_len.ensures o.opens.ensures _ c.before.before.saves.ensures c.before.before.before.if1.false c.in-front3.ensures c.before.if2.false
 
 pub turn_spec : {M : Type 1} → statement M
 turn_spec =

@@ -26,7 +26,7 @@ format-top-level-reserved-word-requires : tie.Need-format-top-level-reserved-wor
 format-top-level-reserved-word-requires c κs =
     let start = c.before.before.before.before.before.before.before.before.before.before.before in
     let told = c.before.before.before.levels-around.ensures in
-    (start.requires.steady.held, (value-inside start.args.sheet.now start.args.x start.args.i _ start.requires.known start.requires.here c.before.before.before.before.before.before.before.before.value_of_lem.ensures, (told.out-low, told.into-low)))
+    (start.requires.steady.held, (value-inside start.args.sheet.now start.args.x start.args.i _ start.requires.known start.requires.here c.before.before.before.before.before.before.before.before.value_of_lem.ensures, (told.out_low, told.into_low)))
 
 with-indentation-requires : tie.Need-with-indentation-requires
 with-indentation-requires c κs = search rules

@@ -27,7 +27,7 @@ sub-t11 c = search (rules, by-more)
 add-t13 : tie.Need-overflow-add-t13
 add-t13 c =
     let set = c.before.before.before.before.before in
-    let h = (by_turned _ _ _ _ _ _ _ _ _ _ set.before.before.before.requires.1.0 set.before.before.decrease-top-level-if.ensures set.before.increase-top-level-if.ensures set.set-previous-top-level.ensures c.before.before.is-full.ensures).into-low in
+    let h = (by_turned _ _ _ _ _ _ _ _ _ _ set.before.before.before.requires.1.0 set.before.before.decrease-top-level-if.ensures set.before.increase-top-level-if.ensures set.set-previous-top-level.ensures c.before.before.is-full.ensures).into_low in
     search (rules, h)
 
 returns : tie.Need-returns
