@@ -34,10 +34,10 @@ fn main() {
     fs::write(out.join("oracle_modules.rs"), root).expect("OUT_DIR can be written");
 }
 
-/// The proved call, as `rt staticlib twigmantle` left it.
+/// The proved call, as `tools/staticlib` left it.
 fn link(folder: &Path) {
     let library = folder.join("libtwigmantle.a");
-    assert!(library.exists(), "no {library:?}: run rt staticlib twigmantle first");
+    assert!(library.exists(), "no {library:?}: run tools/staticlib first");
     println!("cargo:rustc-link-search=native={}", folder.display());
     println!("cargo:rustc-link-lib=static=twigmantle");
     println!("cargo:rerun-if-changed={}", library.display());

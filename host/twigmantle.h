@@ -1,6 +1,6 @@
 /* The layout of a query sheet: any bytes, any buffer. docs/sheet.md says what a sheet is.
  *
- * Link libtwigmantle.a (rt staticlib twigmantle; x86-64). It may call memcpy, memmove and memset, and nothing else; it allocates nothing.
+ * Link libtwigmantle.a (tools/staticlib; x86-64). It may call memcpy, memmove and memset, and nothing else; it allocates nothing.
  *
  * Pointers. Each must be good for the length given with it, and may be null where that length is 0. The sheet is only read, but by twigmantle_mend and twigmantle_convert. The sheet, the buffer, the
  * list, the table and the report may not overlap, and no one else may write to any of them during the call: to compact a sheet, lend another buffer than its own. A text that is

@@ -182,14 +182,14 @@ fn samples() -> Vec<Sample> {
     samples.push(sample(
         STORED,
         "The same as it was stored before `inline` 1 was withdrawn: layout refuses it. \
-         `target/bin/convert_sheet < samples/stored.sheet` writes it with `inline` 2 (`stored.converted`), and that \
+         `crates/convert_sheet/out/convert_sheet < samples/stored.sheet` writes it with `inline` 2 (`stored.converted`), and that \
          is the sheet above.",
         with(filled(of(CONSOLE), MODE_INDEXED, LIST), |o| o.inline = INLINE_ON),
     ));
     samples.push(sample(
         EDITED,
         "As a station's tool leaves it: the parameters were edited, and their old values stand in the bodies \
-         still. `target/bin/compact_sheet < samples/edited.sheet` writes it without them \
+         still. `crates/compact_sheet/out/compact_sheet < samples/edited.sheet` writes it without them \
          (`edited.compact`), and the new sheet gives the same text.",
         filled(of(INDEXED), MODE_INDEXED, LIST),
     ));
@@ -197,7 +197,7 @@ fn samples() -> Vec<Sample> {
         DAMAGED,
         "As a failing tool leaves it, with a stray bit in each of three places: the case, the packed word of `FROM`, \
          and the first letter of `notes`. Options and SQL are shown as they were before. \
-         `target/bin/mend_sheet < samples/damaged.sheet` writes the mended sheet (`damaged.mended`) to standard \
+         `crates/mend_sheet/out/mend_sheet < samples/damaged.sheet` writes the mended sheet (`damaged.mended`) to standard \
          output and a line for each change (`damaged.report`) to standard error. What was bad is not guessed at: \
          `FROM` is now a Word like any other, and the letter a `?`.",
         filled(of(INDEXED), MODE_INDEXED, LIST),
@@ -205,7 +205,7 @@ fn samples() -> Vec<Sample> {
     samples.push(sample(
         PASTED,
         "With two texts that stations' own tools made of the query. \
-         `target/bin/judge_sheet samples/pasted.sheet < samples/pasted.same` says of each whether it shows what is \
+         `crates/judge_sheet/out/judge_sheet samples/pasted.sheet < samples/pasted.same` says of each whether it shows what is \
          due, wherever its blanks and lines are; in `pasted.other` the two values are exchanged.",
         with(filled(of(NAMED), MODE_NAMED, NAMES), |o| o.case = 1),
     ));
@@ -371,14 +371,12 @@ fn block(text: &str) -> String {
 const OPENING: &str = "# Samples
 
 Each sheet, the SQL that its tokens make one after another, and what the sheet program prints for it (the file NAME.text). On x86-64 Linux, from the
-repository's root, after `rt check sheet`:
+repository's root, after `(cd crates/sheet && rt run < stdin)`:
 
-    target/bin/sheet < samples/join.sheet
-    for s in samples/*.sheet; do target/bin/sheet < $s | cmp - ${s%sheet}text && echo $s; done
+    crates/sheet/out/sheet < samples/join.sheet
+    for s in samples/*.sheet; do crates/sheet/out/sheet < $s | cmp - ${s%sheet}text && echo $s; done
 
-The program ends with 0 on a refusal too: the first word says which it is. On another machine it needs an x86-64 emulator, as in
-`qemu-x86_64 -L /usr/x86_64-linux-gnu target/bin/sheet < samples/join.sheet` (`README.md` says what must be there); `rt check sheet` runs it there by
-itself.
+The program ends with 0 on a refusal too: the first word says which it is.
 
 Made by `compare/target/release/compare samples samples` (`docs/comparison.md`) from `compare/src/samples.rs`, where the tokens stand with their kinds. The
 texts are the Rust's own, but for `inline` 2, which the Rust has not; that one and the refusals are the model's.

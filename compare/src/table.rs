@@ -167,11 +167,10 @@ fn opening(out: &mut impl Write, n: usize, seed: u64) -> io::Result<()> {
         out,
         "-- Random sheets with the Rust's answers, every third at word 7 = 2 with the model's, every sixth with \
          tabs: {n} rows, seed {seed}. Made by compare/; not kept.
-use mathlib.Core.Path.{{_≡_, refl}}
-use mathlib.Core.List.{{List, [], _∷_, map}}
-use Rattle·rules.specs.Bytes.{{bytes}}
-use Rattle·rules.specs.Answer.{{Answer, laid, refusal}}
-use Rattle·rules.specs.Computed.{{Sample, row, given, wanted, computed}}"
+use Rattle.std.specs.Prelude.{{◌≡◌, refl, List, [], ◌∷◌, map}}
+use Rattle.rules.specs.Bytes.{{bytes}}
+use Rattle.rules.specs.Answer.{{Answer, laid, refusal}}
+use Rattle.rules.specs.Computed.{{Sample, row, given, wanted, computed}}"
     )
 }
 

@@ -527,7 +527,7 @@ module _ (i : Code) (c : Clean i) where
       let m : i.nprevious - 1 < length i.previous = omega arith in
       let q : i.nprevious ≤ length i.previous = omega arith in
       record {
-        is = rw (← e, stack-put no_previous i.nprevious i.previous v z q, tail_map);
+        is = rw (← e, stack-put no_previous i.nprevious i.previous v z q, (tail_map previous_of));
         clean = record {
           kinds = c.kinds;
           known = c.known;

@@ -22,7 +22,7 @@ ghost use Rattle.twigmantle.specs.Once.{lacks_table, once, once_listed, once_lis
 use foreign::Judged;
 use rules::{Outcome, Report};
 
-// The layout call: the answer in numbers, and in the buffer the text and zero after it, or zero alone; a text that is laid out is faithful (demand 3).
+// The layout call: the answer in numbers, and in the buffer the text and zero after it, or zero alone; a text that is laid out is faithful.
 #[unsafe(no_mangle)]
 pub extern "C" fn twigmantle_layout(sheet: &[u8], text: &mut [u8]) -> Report
     ensures value { result ≡ reported sheet.now (length text.old) }

@@ -1,0 +1,11 @@
+use Rattle.indentation.proofs.Laws.{by-top-if, by-room}
+use Rattle.std.proofs.Common.{rules}
+use Rattle.indentation.proofs.Indentation.increase_top_level_if.Goals as goal
+
+pub more_if-requires-3 : goal.more_if-requires-3
+more_if-requires-3 c =
+    search (rules, by-room)
+
+pub returns : goal.returns
+returns c =
+    search (rules, by-top-if)

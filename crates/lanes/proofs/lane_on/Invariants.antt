@@ -1,0 +1,14 @@
+use mathlib.Core.Path.{◌≡◌}
+use Prim.Native.Nat.{◌+◌, ◌-◌, ◌≤◌}
+use Rattle.steps.specs.Steps.{down}
+use Rattle.lanes.specs.Lanes.{lane_on}
+use Rattle.lanes.proofs.LaneLaws.{lane}
+use Rattle.lanes.proofs.lane_on.Given as goal
+
+abbrev pub invariant-loop-i : goal.invariant-loop-i
+invariant-loop-i l =
+    (l.i ≤ 8) × (lane_on (lane l.at l.top l.feeds) (down l.t l.k l.i (8 - l.i)) ≡ lane_on (lane l.initial.at l.initial.top l.initial.feeds) (down l.t l.k 0 8)) × (l.feeds ≤ l.initial.feeds + l.i)
+
+abbrev pub decreases-loop-i : goal.decreases-loop-i
+decreases-loop-i l =
+    8 - l.i

@@ -1,0 +1,16 @@
+use Rattle.text.proofs.AppendLaws.{kept_append, by-full, by-put-of}
+use lib.ListN.{length-replicate}
+use Rattle.std.proofs.Common.{rules}
+use Rattle.text.proofs.append_repeat.Goals as goal
+
+pub returns-then-fault-ne0 : goal.returns-then-fault-ne0
+returns-then-fault-ne0 c =
+    search (rules, kept_append)
+
+pub returns-then-text-len : goal.returns-then-text-len
+returns-then-text-len c =
+    search (rules, by-full, length-replicate)
+
+pub returns : goal.returns
+returns c =
+    search (rules, by-put-of, length-replicate)

@@ -1,0 +1,12 @@
+use Prim.Native.Nat.{◌-◌}
+use Rattle.text.proofs.PutLaws.{by-none, by-fill}
+use Rattle.std.proofs.Common.{rules}
+use Rattle.text.proofs.fill.Goals as goal
+
+pub loop-i-init : goal.loop-i-init
+loop-i-init c =
+    search (rules, by-none)
+
+pub loop-i-preserved : goal.loop-i-preserved
+loop-i-preserved c =
+    search (rules, by-fill)

@@ -1,0 +1,14 @@
+use mathlib.Core.Path.{◌≡◌}
+use mathlib.Core.Bool.{true}
+use Prim.Native.Nat.{◌-◌, ◌%◌, ◌≤◌}
+use Rattle.ascii.specs.Part.{part}
+use Rattle.words.specs.Words.{all_white}
+use Rattle.words.proofs.run_of.Given as goal
+
+abbrev pub invariant-loop-i : goal.invariant-loop-i
+invariant-loop-i l =
+    (l.i ≤ l.n) × (l.i % 32 ≡ 0) × (all_white l.white (part l.src l.start l.i) ≡ true)
+
+abbrev pub decreases-loop-i : goal.decreases-loop-i
+decreases-loop-i l =
+    l.n - l.i
