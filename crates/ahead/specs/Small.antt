@@ -1,5 +1,5 @@
 -- Bounds on a reading, so that no sum of it wraps.
-use Rattle.std.specs.Prelude.{ℕ, ◌+◌, ◌-◌, ◌*◌, ◌≤◌}
+use Rattle.std.specs.Prelude.{ℕ, ◌+◌, ◌*◌, ◌≤◌}
 use Rattle.rules.specs.declared.Scan.{Scan}
 
 -- after k tokens, o being the open level

@@ -1,16 +1,16 @@
 -- A text is its first line and what follows: the column before moves the first line alone. Assumes nothing.
 use mathlib.Core.Path.{◌≡◌, refl, sym, ap, ◌∙◌}
-use mathlib.Core.Bool.{Bool, true, false, ◌||◌}
+use mathlib.Core.Bool.{Bool, true, false}
 use mathlib.Core.List.{List, [], ◌∷◌}
-use Prim.Native.Nat.{ℕ, zero, suc, ◌+◌, ◌-◌, ◌*◌, ◌/◌, ◌%◌, ◌≤◌, ◌<◌, max}
+use Prim.Native.Nat.{ℕ, suc, ◌+◌, ◌*◌, ◌/◌, ◌≤◌, max}
 use native.Mathlib.Omega.{arith}
 use lib.Dec.{eqb}
-use lib.ListN.{length, take}
+use lib.ListN.{length}
 use Rattle.std.specs.Prelude.{if◌then◌else◌}
 use Rattle.rules.specs.Text.{column_after}
-use Rattle.ascii.specs.Part.{has, before}
+use Rattle.ascii.specs.Part.{has}
 use Rattle.columns.specs.declared.Measure.{Measure}
-use Rattle.columns.specs.Measured.{one_on, measure}
+use Rattle.columns.specs.Measured.{measure}
 use Rattle.columns.proofs.MeasureLaws.{column-most, measure-most}
 
 -- the column where the first line ends: at its line feed, or at the end

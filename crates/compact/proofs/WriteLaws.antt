@@ -7,7 +7,7 @@ use Prim.Native.Nat.{ℕ, zero, suc, ◌+◌, ◌-◌, ◌*◌, ◌≤◌, ◌<�
 use native.Mathlib.Nat.{zero-add, add-zero, add-suc}
 use native.Mathlib.Numerals.{add-one}
 use native.Mathlib.Omega.{arith}
-use lib.Dec.{eqb, ltb}
+use lib.Dec.{eqb}
 use lib.ListN.{length, take, drop, set, get_or, replicate, length-append, length-replicate, length-set, drop_of_length-le}
 use borrow.Author.Tests.{lt-ltb, le-ltb, eq-eqb, ne_eqb}
 use Rattle.rules.specs.declared.Place.{Place}
@@ -127,13 +127,13 @@ module _ (s : List ℕ) (c : Counts) where
   pub record Copied (d : List ℕ) (base : ℕ) (t : List ℕ) (at j : ℕ) : Type 0 where
     pub in-bodies : j ≤ c.bytes
     pub behind : at ≡ base + kept_before s c j
-    pub same_room : length t ≡ length d
+    pub same-room : length t ≡ length d
     pub bytes : t ≡ put d base (kept_bytes s c j)
 
   module _ (d : List ℕ) (base : ℕ) where
     pub copy_begins : Copied d base d base 0
     unfolding kept_bytes
-    copy_begins = record { in-bodies = omega arith; behind = omega arith; same_room = refl; bytes = sym (put-nil d base) }
+    copy_begins = record { in-bodies = omega arith; behind = omega arith; same-room = refl; bytes = sym (put-nil d base) }
 
     module _ (t : List ℕ) (at j : ℕ) (h : Copied d base t at j) where
       pub copy_ends : c.bytes ≤ j → t ≡ put d base (kept_bytes s c c.bytes)
@@ -141,7 +141,7 @@ module _ (s : List ℕ) (c : Counts) where
 
       module _ (l : j < c.bytes) where
         copy_left : is_covered s c j ≡ false → Copied d base t at (j + 1)
-        copy_left e = record { in-bodies = omega arith; behind = rw (kept-left j e) h.behind; same_room = h.same_room; bytes = rw (kept-left j e) h.bytes }
+        copy_left e = record { in-bodies = omega arith; behind = rw (kept-left j e) h.behind; same-room = h.same-room; bytes = rw (kept-left j e) h.bytes }
 
         module _ (e : is_covered s c j ≡ true) (r : base + kept_before s c c.bytes ≤ length d) where
           one-longer : kept_before s c (j + 1) ≡ kept_before s c j + 1
@@ -154,28 +154,28 @@ module _ (s : List ℕ) (c : Counts) where
               let m = rw i at (kept_more (j + 1) (c.bytes - (j + 1))) in
               let o = one-longer in
               let b = h.behind in
-              let n = h.same_room in omega arith
+              let n = h.same-room in omega arith
 
           copy_one : Copied d base (set t at (get_or s (body_at c + j) 0)) (at + 1) (j + 1)
           copy_one =
               let o = one-longer in
               let b = h.behind in
-              let n = h.same_room in
+              let n = h.same-room in
               let m = copy_room in
               record {
                 in-bodies = omega arith;
                 behind = omega arith;
-                same_room = length-set t at (get_or s (body_at c + j) 0) ∙ n;
+                same-room = length-set t at (get_or s (body_at c + j) 0) ∙ n;
                 bytes = rw (kept-one j e, h.bytes, b) (put-snoc d base (kept_bytes s c j) (get_or s (body_at c + j) 0) (omega arith));
               }
 
         -- a byte that is kept, or none
-        pub copy_on : {A B : Type 0} (b : Bool) (t' : List ℕ) (at' : ℕ) → b ≡ is_covered s c j → base ≡ body_at c → base + kept_before s c c.bytes ≤ length d → A ⊎ B
-            → (A → (b ≡ true) × (t' ≡ set t at (get_or s (base + j) 0)) × (at' ≡ at + 1)) → (B → (b ≡ false) × (t' ≡ t) × (at' ≡ at)) → Copied d base t' at' (j + 1)
-        copy_on {A} b t' at' e o r came f g = ⊎_elim (λ w. rw ((f w).1, (f w).2) (taken w)) (λ w. rw ((g w).1, (g w).2) (copy_left (sym e ∙ (g w).0))) came
+        pub copy_on : (b : Bool) (t' : List ℕ) (at' : ℕ) → b ≡ is_covered s c j → base ≡ body_at c → base + kept_before s c c.bytes ≤ length d
+            → ((b ≡ true) × (t' ≡ set t at (get_or s (base + j) 0)) × (at' ≡ at + 1)) ⊎ ((b ≡ false) × (t' ≡ t) × (at' ≡ at)) → Copied d base t' at' (j + 1)
+        copy_on b t' at' e o r came = ⊎_elim (λ w. rw (w.1, w.2) (taken w.0)) (λ w. rw (w.1, w.2) (copy_left (sym e ∙ w.0))) came
           where
-            taken : A → Copied d base (set t at (get_or s (base + j) 0)) (at + 1) (j + 1)
-            taken w = let i : get_or s (base + j) 0 ≡ get_or s (body_at c + j) 0 = rw o in rw i (copy_one (sym e ∙ (f w).0) r)
+            taken : b ≡ true → Copied d base (set t at (get_or s (base + j) 0)) (at + 1) (j + 1)
+            taken w = let i : get_or s (base + j) 0 ≡ get_or s (body_at c + j) 0 = rw o in rw i (copy_one (sym e ∙ w) r)
 
 -- ---- the call
 

@@ -1,5 +1,5 @@
 -- The ways through the call. Assumes nothing.
-use mathlib.Core.Path.{◌≡◌, refl, ap, sym, ◌∙◌}
+use mathlib.Core.Path.{◌≡◌, refl, sym, ◌∙◌}
 use mathlib.Core.List.{List}
 use Prim.Native.Nat.{ℕ}
 use lib.ListN.{set}
@@ -9,7 +9,7 @@ use Rattle.rules.specs.declared.Counts.{Counts}
 use Rattle.rules.specs.declared.Outcome.{Outcome}
 use Rattle.rules.specs.Words.{word_at}
 use Rattle.rules.specs.Checks.{checked}
-use Rattle.converted.specs.Converted.{converted, Conversion, convert_as, convert, convert_outcome, sheet_after}
+use Rattle.converted.specs.Converted.{Conversion, convert_as, convert, convert_outcome, sheet_after}
 use Rattle.converted.proofs.Laws.{one-withdrawn, other-kept, is-withdrawn, not-withdrawn}
 
 -- all that the call promises

@@ -12,7 +12,7 @@ use Rattle.rules.specs.Checks.{checked}
 use Rattle.rules.specs.Compacted.{compact, outcome_of, buffer_with}
 use Rattle.compacted.proofs.Call.{call_written}
 use Rattle.rules.specs.Answer.{is_withdrawn}
-use Rattle.converted.specs.Converted.{converted, refusal, convert_as, convert, convert_outcome, sheet_after}
+use Rattle.converted.specs.Converted.{converted, convert_as, convert, convert_outcome, sheet_after}
 use Rattle.converted.specs.Converts.{Converts, Stored}
 use Rattle.converted.proofs.Laws.{alike, not-withdrawn, other-kept, becomes-two, not_one}
 use Rattle.converted.proofs.Theorem.{still-sound, converted-again, commutes, stored-sheet}

@@ -15,17 +15,17 @@ use Rattle.stacks.proofs.StackLaws.{same_or}
 use Rattle.rules.specs.Bytes.{bytes}
 use Rattle.rules.specs.Base.{any_of, first}
 use Rattle.std.specs.Prelude.{if◌then◌else◌}
-use Rattle.rules.specs.Switch.{stay, next, answer, OnLetters, ◌↪◌, fmt_table, in_state, moved_by, moved_to, moved}
+use Rattle.rules.specs.Switch.{answer, OnLetters, ◌↪◌, fmt_table, in_state, moved_by, moved_to, moved}
 use Rattle.fmt_switch.specs.declared.Move.{Move}
 use Rattle.fmt_switch.specs.declared.Move.TheVariants as move
 use Rattle.fmt_switch.specs.declared.OnByte.{OnByte}
 use Rattle.fmt_switch.specs.declared.Row.{Row}
 use Rattle.fmt_switch.specs.Of.{letters_of, says_on, entry_of, row_of, ends, says_nothing, moved_as}
 
-get_d_map : {A B : Type 0} (f : A → B) (l : List A) (n : ℕ) (a : A) (b : B) → n < length l → f (get_or l n a) ≡ get_or (map f l) n b
-get_d_map f [] n a b h = absurd (omega arith)
-get_d_map f (x ∷ l) zero a b h = refl
-get_d_map f (x ∷ l) (suc n) a b h = get_d_map f l n a b (omega arith)
+get_or-map : {A B : Type 0} (f : A → B) (l : List A) (n : ℕ) (a : A) (b : B) → n < length l → f (get_or l n a) ≡ get_or (map f l) n b
+get_or-map f [] n a b h = absurd (omega arith)
+get_or-map f (x ∷ l) zero a b h = refl
+get_or-map f (x ∷ l) (suc n) a b h = get_or-map f l n a b (omega arith)
 
 neither : (a b : Bool) → (a || b) ≡ false → (a ≡ false) × (b ≡ false)
 neither true b e = absurd (let z : ◌≡◌ {A = ℕ} 0 1 = cc in omega arith)
@@ -33,7 +33,7 @@ neither false b e = (refl, e)
 
 -- the rows of any table that says what the rules' table says
 row-said : (rows : List Row) (d : Row) (n : ℕ) → map row_of rows ≡ fmt_table → n < length rows → row_of (get_or rows n d) ≡ get_or fmt_table n []
-row-said rows d n e h = get_d_map row_of rows n d [] h ∙ ap (λ (l : List (List OnLetters)). get_or l n []) e
+row-said rows d n e h = get_or-map row_of rows n d [] h ∙ ap (λ (l : List (List OnLetters)). get_or l n []) e
 
 -- no row starts with an entry that ends the reading
 row-starts : (rows : List Row) (d : Row) (n : ℕ) → any_of says_nothing rows ≡ false → n < length rows → says_nothing (get_or rows n d) ≡ false

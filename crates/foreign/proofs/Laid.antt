@@ -27,7 +27,7 @@ use Rattle.rules.specs.State.{State, start, on_text, on_index, refuse_if, push_s
 use Rattle.rules.specs.Rows.{lays_out}
 use Rattle.rules.specs.Formatter.{format_placeholder, format_token}
 use Rattle.rules.specs.Answer.{Answer, laid, refusal, taken_as, unless_refused, taken, format_from, format, is_withdrawn, answer_as, answer, report_of, buffer_of, reported, buffer_after}
-use Rattle.rules.specs.Due.{strip, due, due_of}
+use Rattle.rules.specs.Due.{strip, due_of}
 use Rattle.rules.proofs.Keeps.{StripsTo, keeps}
 use Rattle.rules.proofs.Call.{by-checked}
 use Rattle.checks.proofs.Sound.{sound-sheeted}

@@ -3,7 +3,7 @@ use mathlib.Core.Path.{◌≡◌, refl, sym, ap, ◌∙◌}
 use mathlib.Core.Bool.{Bool, true, false, not, ◌&&◌, ◌||◌, false≢true, or-false, or_assoc}
 use mathlib.Core.Option.{Option, none, some}
 use mathlib.Core.List.{List, [], ◌∷◌, ◌++◌, append_assoc, append-nil}
-use Prim.Native.Nat.{ℕ, suc, ◌+◌}
+use Prim.Native.Nat.{ℕ, suc}
 use native.Mathlib.Omega.{arith}
 use lib.Dec.{eqb}
 use lib.ListN.{length, take, drop, length-append}
@@ -21,7 +21,7 @@ use Rattle.rules.specs.Switch.{Switch, turn_by, turn_of, switched_on}
 use Rattle.rules.specs.Rows.{lays_out}
 use Rattle.rules.specs.Room.{counter_after}
 use Rattle.rules.specs.Formatter.{format_reserved_word}
-use Rattle.rules.specs.Due.{strip, Piece, own, cased, filled, placeholder, role_of, kept_on, switches, kept_by, kept_tokens, in_asked_case, entry_of, is_next, count_next, due_from, due}
+use Rattle.rules.specs.Due.{strip, Piece, own, cased, filled, role_of, kept_on, switches, kept_by, kept_tokens, in_asked_case, entry_of, is_next, count_next, due_from, due}
 use Rattle.rules.proofs.Own.{word-is, filled_is, switch-is}
 use Rattle.rules.proofs.Keeps.{counter, counter-none, onto, due_by, due-append, kept_here, next_switch, kept_after, kept_step}
 use Rattle.foreign.specs.declared.Verdict.{Verdict}

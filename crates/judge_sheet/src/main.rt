@@ -75,13 +75,27 @@ fn judge_text(rt: &(impl Input + Print + AllocGlobal), sheet: &[u8]) -> io::Resu
     judge(rt, sheet, &text)
 }
 
+// The system's own words, without the number that std puts after them.
+fn write_unopened(
+    rt: &(impl Eprint + AllocGlobal),
+    path: &str,
+    error: io::Error,
+) -> io::Result<()> {
+    let told = format!(in rt.alloc(); "{error}")?;
+    let words = match told.split_once(" (os error ") {
+        Some((words, _)) => words,
+        None => told.as_str(),
+    };
+    eprintln!(rt; "{path}: {words}")
+}
+
 fn main(rt: HostRuntime) -> io::Result<()> {
     let Some(path) = env::args(&rt)?.nth(1) else {
         return eprintln!(rt; "sheet: Invalid argument");
     };
     let file = match fs::open(&rt, path.as_str()) {
         Ok(file) => file,
-        Err(error) => return eprintln!(rt; "{path}: {error}"),
+        Err(error) => return write_unopened(&rt, path.as_str(), error),
     };
     // Longer than any sound sheet, so that what is not read is refused by its length.
     let mut sheet = Vec::new(rt.alloc());

@@ -5,7 +5,7 @@ use mathlib.Core.List.{List, [], ◌∷◌, ◌++◌, append_assoc, append-nil}
 use Prim.Native.Nat.{ℕ, zero, suc, ◌+◌, ◌*◌, ◌≤◌, ◌<◌}
 use native.Mathlib.Nat.{add-zero}
 use native.Mathlib.Omega.{arith}
-use lib.Dec.{eqb, ltb}
+use lib.Dec.{eqb}
 use lib.ListN.{length, take, drop, get_or, take-append-drop, drop_of_length-le}
 use lib.Seq.{take_at, take_all, take-add, drop-drop, drop-cons, drop-append-add, length-take-le}
 use borrow.Author.Tests.{lt-ltb, le-ltb, eqb-true}

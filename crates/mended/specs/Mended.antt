@@ -1,5 +1,5 @@
 -- Wish 10: what each word and byte of a damaged sheet becomes, and the report.
-use Rattle.std.specs.Prelude.{if◌then◌else◌, ◌≡◌, Bool, true, false, List, [], ◌∷◌, ◌++◌, ℕ, zero, suc, ◌+◌, ◌-◌, ◌*◌, ◌%◌, eqb, leb, ltb, length, take, drop, replicate, get_or}
+use Rattle.std.specs.Prelude.{if◌then◌else◌, false, List, [], ◌∷◌, ◌++◌, ℕ, zero, suc, ◌+◌, ◌-◌, ◌*◌, ◌%◌, eqb, leb, ltb, length, take, drop, replicate, get_or}
 use Rattle.rules.specs.declared.Counts.{Counts}
 use Rattle.rules.specs.declared.Offence.{Offence}
 use Rattle.rules.specs.declared.Offence.TheVariants.{At, Nowhere}

@@ -8,7 +8,6 @@ use lib.Dec.{eqb, ltb}
 use borrow.Author.Tests.{ltb-true, ltb-false}
 use Rattle.std.specs.Prelude.{if◌then◌else◌}
 use Rattle.rules.specs.Text.{column_after}
-use Rattle.columns.specs.declared.Measure.{Measure}
 use Rattle.columns.specs.Measured.{count, measure}
 use Rattle.columns.proofs.MeasureLaws.{column-most}
 use Rattle.columns.proofs.HeadLaws.{best_free}

@@ -1,26 +1,25 @@
 -- Laws of a part put after all that stands before it. Assumes nothing.
 use mathlib.Core.Path.{◌≡◌, refl, sym, ap, ◌∙◌}
 use mathlib.Core.Logic.{◌⊎◌, ⊎_elim}
-use mathlib.Core.Bool.{Bool, true, false, ◌||◌}
+use mathlib.Core.Bool.{Bool, true, false}
 use mathlib.Core.List.{List, [], ◌∷◌, ◌++◌}
-use Prim.Native.Nat.{ℕ, zero, suc, ◌+◌, ◌-◌, ◌*◌, ◌/◌, ◌%◌, ◌^◌, ◌≤◌, ◌<◌, max}
+use Prim.Native.Nat.{ℕ, suc, ◌+◌, ◌-◌, ◌*◌, ◌/◌, ◌%◌, ◌^◌, ◌≤◌, ◌<◌, max}
 use native.Mathlib.Nat.{suc-mul, mul-le-mul_right}
 use native.Mathlib.Numerals.{add-one}
 use native.Mathlib.Omega.{arith}
 use lib.Bits.{bit_and, and_mask}
-use lib.Dec.{eqb, ltb}
-use lib.ListN.{length, take, drop, get_or, replicate, get_or-replicate, get_or-eq_default}
+use lib.Dec.{eqb}
+use lib.ListN.{length, take, drop}
 use lib.Seq.{take-take}
-use borrow.Author.Tests.{ltb-true, ltb-false}
 use Rattle.std.specs.Prelude.{if◌then◌else◌}
-use Rattle.rules.specs.Text.{column_after, line_feeds}
+use Rattle.rules.specs.Text.{line_feeds}
 use Rattle.rules.proofs.Short.{feeds-few}
 use Rattle.ascii.specs.Part.{part, has, before}
 use Rattle.ascii.proofs.PartLaws.{length_part, part-more, part_end}
 use Rattle.columns.specs.declared.Measure.{Measure}
 use Rattle.columns.specs.Measured.{count, measure}
-use Rattle.columns.proofs.HeadLaws.{head_at, after, split, head-far, head-most, best_free, best_most, after-most, after-end}
-use Rattle.columns.proofs.MeasureLaws.{Counted, none-counted, counted-on, measure-both, measure-most}
+use Rattle.columns.proofs.HeadLaws.{head_at, after, split, head-far, head-most, best_free, after-most, after-end}
+use Rattle.columns.proofs.MeasureLaws.{Counted, none-counted, counted-on}
 use Rattle.parts.specs.declared.Counted.{Counted as Counts}
 use Rattle.parts.specs.Parts.{Told, counted_of}
 

@@ -181,10 +181,24 @@ fn replay_all<R: io::Read>(rt: &impl Print, from: &mut R) -> io::Result<()> {
     print(rt, same, all)
 }
 
+// The system's own words, without the number that std puts after them.
+fn write_unopened(
+    rt: &(impl Eprint + AllocGlobal),
+    path: &str,
+    error: io::Error,
+) -> io::Result<()> {
+    let told = format!(in rt.alloc(); "{error}")?;
+    let words = match told.split_once(" (os error ") {
+        Some((words, _)) => words,
+        None => told.as_str(),
+    };
+    eprintln!(rt; "{path}: {words}")
+}
+
 fn main(rt: HostRuntime) -> io::Result<()> {
     let path = "answers";
     match fs::open(&rt, path) {
         Ok(mut file) => replay_all(&rt, &mut file),
-        Err(error) => eprintln!(rt; "{path}: {error}"),
+        Err(error) => write_unopened(&rt, path, error),
     }
 }

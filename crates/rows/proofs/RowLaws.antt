@@ -5,7 +5,7 @@ use mathlib.Core.Option.{none, some}
 use mathlib.Core.List.{List, [], ◌∷◌, ◌++◌, map, append_assoc}
 use Prim.Native.Nat.{ℕ, suc, ◌+◌, ◌-◌, ◌*◌, ◌/◌, ◌%◌, ◌^◌, ◌≤◌, ◌<◌, min}
 use native.Mathlib.Omega.{arith}
-use lib.Dec.{eqb, leb}
+use lib.Dec.{eqb}
 use lib.ListN.{length, get_or, set, replicate, length-append, length-set}
 use lib.Seq.{set_at}
 use borrow.Author.Tests.{eqb-true}
@@ -18,7 +18,7 @@ use Rattle.rows.proofs.ReadLaws.{length-rows, length-in}
 use Rattle.rows.proofs.Back.{clip-rows}
 use Rattle.rows.proofs.Order.{order-before, clip-same, clips_same}
 use Rattle.rows.proofs.NumberLaws.{sum_back}
-use Rattle.rows.proofs.WalkLaws.{set-append-add, moved, span-put, due, Left, walk_begins, walk_ends, row, one_more, in_list, start_is, len_is, walk-on}
+use Rattle.rows.proofs.WalkLaws.{set-append-add, moved, span-put, due, Left, walk_begins, walk_ends, one_more, in_list, start_is, len_is, walk-on}
 
 -- ---- clip
 

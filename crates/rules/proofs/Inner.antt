@@ -17,7 +17,7 @@ use Rattle.rules.specs.declared.BlockInfo.{BlockInfo}
 use Rattle.rules.specs.Bytes.{bytes}
 use Rattle.rules.specs.Base.{same, choose, when, full}
 use Rattle.std.specs.Prelude.{if◌then◌else◌}
-use Rattle.rules.specs.Tokens.{Token, Here, is}
+use Rattle.rules.specs.Tokens.{Token, Here}
 use Rattle.rules.specs.Sheet.{Env}
 use Rattle.rules.specs.Text.{Text, fits, refused, refuse}
 use Rattle.rules.specs.InlineBlock.{part_of, level_after, closes_at, is_active, begins_inline, begin_if_possible}

@@ -14,7 +14,6 @@ use Rattle.rules.specs.declared.Part.{Part}
 use Rattle.rules.specs.declared.Part.TheVariants as part
 use Rattle.rules.specs.declared.Turn.{Turn}
 use Rattle.rules.specs.declared.Turn.TheVariants as turn
-use Rattle.rules.specs.declared.IndentType.TheVariants.{Top}
 use Rattle.rules.specs.declared.BlockInfo.{BlockInfo}
 use Rattle.rules.specs.declared.FormatOptions.{FormatOptions}
 use Rattle.rules.specs.Bytes.{bytes}
@@ -27,7 +26,7 @@ use Rattle.rules.specs.InlineBlock.{part_of, is_comment, level_after, closes_at,
 use Rattle.rules.specs.State.{State, start, on_text}
 use Rattle.rules.specs.Formatter.{format_no_change, format_opening_parentheses, format_closing_parentheses, format_token}
 use Rattle.rules.specs.Switch.{Switch, switch_in, turn_by, turn_of, switch_after, switched_on}
-use Rattle.rules.specs.Answer.{Answer, refusal, taken_as, taken, unless_refused, format, format_from}
+use Rattle.rules.specs.Answer.{Answer, taken_as, taken, unless_refused, format, format_from}
 use Rattle.rules.proofs.Inner.{never, inlined, pushes, blocks-few, Plain, plain-level, plain-same, plain-inline, begins, opening-inline, opening-blocks, opening-six, closing-blocks, closing-inline}
 use Rattle.rules.specs.Nested.{blocks_in, quiet, Nested, meets_seven, seven_from, with_seven}
 

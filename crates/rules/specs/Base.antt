@@ -5,7 +5,6 @@ use Rattle.rules.specs.declared.Limit.{Limit}
 use Rattle.rules.specs.declared.Limit.TheVariants as limit
 
 infixl 20 ◌▹◌
-
 -- a value, then what is done to it: rules read from left to right, as the code runs
 abbrev pub ◌▹◌ {ℓ κ} : {A : Type ℓ} {B : Type κ} → A → (A → B) → B
 ◌▹◌ a f = f a

@@ -2,7 +2,7 @@
 use Rattle.std.proofs.Common.{◌≡◌, ℕ, zero, suc, ◌+◌, ◌*◌, ◌/◌, ◌%◌, ◌^◌, ◌<◌, ◌≤◌, Bool, true, false, eqb, List, [], ◌∷◌, ◌++◌, length, get_or, sym, refl, ap, ◌∙◌, mul-le-mul_right, arith}
 use lib.Bits.{bit_or, or_zero_r, or_lt, or_add_and, and_le_l, and_mask}
 use Rattle.std.specs.Prelude.{if◌then◌else◌}
-use Rattle.rules.specs.Text.{column_after, line_feeds}
+use Rattle.rules.specs.Text.{column_after}
 use Rattle.ascii.specs.Part.{part}
 use Rattle.ascii.proofs.PartLaws.{part-cons, part-more}
 use Rattle.columns.proofs.MeasureLaws.{by-column}

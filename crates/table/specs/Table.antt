@@ -1,5 +1,5 @@
 -- The table of the second engine: six words for each token (docs/ahead.md).
-use Rattle.std.specs.Prelude.{if◌then◌else◌, ◌≡◌, Bool, List, ◌∷◌, ℕ, ◌+◌, ◌*◌, ◌≤◌, ◌<◌, eqb, length, get_or}
+use Rattle.std.specs.Prelude.{if◌then◌else◌, ◌≡◌, List, ◌∷◌, ℕ, ◌+◌, ◌*◌, ◌≤◌, ◌<◌, eqb, length, get_or}
 use Rattle.rules.specs.declared.TokenKind.TheVariants as kind
 use Rattle.rules.specs.declared.Sort.TheVariants as sort
 use Rattle.rules.specs.declared.Scan.{Scan}

@@ -5,7 +5,6 @@ use mathlib.Core.List.{List}
 use Prim.Native.Nat.{ℕ, ◌+◌, ◌*◌, ◌/◌, ◌%◌, ◌≤◌, ◌<◌}
 use native.Mathlib.Omega.{arith}
 use lib.ListN.{length}
-use Rattle.rules.specs.declared.Part.TheVariants as part
 use Rattle.rules.specs.Tokens.{Token}
 use Rattle.table.specs.Table.{word_of}
 use Rattle.table_blocks.specs.declared.Counted.{Counted}

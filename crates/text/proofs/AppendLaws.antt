@@ -9,7 +9,7 @@ use lib.Seq.{length-take-le, drop-drop}
 use borrow.Author.Tests.{le-leb, lt-leb}
 use Rattle.rules.specs.declared.Indent.{Indent}
 use Rattle.rules.specs.declared.Indent.TheVariants as indent
-use Rattle.rules.specs.Text.{Text, fits, refused, append, refuse, indent_of}
+use Rattle.rules.specs.Text.{Text, fits, append, refuse, indent_of}
 use Rattle.text.specs.declared.Text.{Text as Code}
 use Rattle.text.specs.Put.{put}
 use Rattle.text.specs.Held.{text_of, Held, Laid}

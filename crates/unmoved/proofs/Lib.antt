@@ -6,3 +6,4 @@ pub mod Shape
 pub mod Run
 pub mod Words
 pub mod Theorem
+pub mod Apart

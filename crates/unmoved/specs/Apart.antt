@@ -165,47 +165,19 @@ together =
     ∷ pair nothing (sheet (indexed ("\n b" ∷ [])) (P "?" ∷ W "c" ∷ [])) (sheet (indexed ("b" ∷ [])) (P "?" ∷ W "c" ∷ []))
     ∷ []
 
--- ---- the claims
+-- none of these pairs is as the theorem says
+abbrev pub AllMoved : List Pair → Type 0
+AllMoved [] = Unit {0}
+AllMoved (p ∷ ps) = (Unmoved p.one p.other (one_of p) (other_of p) → ⊥) × AllMoved ps
+
+-- ---- what the pairs have in common; the rest is claimed in proofs/
 
 -- each pair has in common all that it need not forget
 pub apart-alike : map (λ (p : Pair). p.but (common_of p.one)) apart ≡ map (λ (p : Pair). p.but (common_of p.other)) apart
 unfolding computed computed_list encode common_of shape
 apart-alike = refl
 
--- one premise fails, and so does the end
-pub apart-judged : map judge apart ≡ wanted
-unfolding computed computed_list encode common_of shape values firm all_firm firm_in called rows_of removed left left_of start_at len_at entry_of row_of row_at rows_in
-apart-judged = refl
-
--- the premises can be met
+-- those that meet every premise have all of it
 pub together-alike : map (λ (p : Pair). common_of p.one) together ≡ map (λ (p : Pair). common_of p.other) together
 unfolding computed computed_list encode common_of shape
 together-alike = refl
-
-pub together-judged : map judge together ≡ map (λ p. record { firm_one = true; firm_other = true; refusal_one = 0; refusal_other = 0; unmoved = true }) together
-unfolding computed computed_list encode common_of shape values firm all_firm firm_in called rows_of removed left left_of start_at len_at entry_of row_of row_at rows_in
-together-judged = refl
-
-same-itself : (a : List ℕ) → same a a ≡ true
-same-itself [] = refl
-same-itself (x ∷ a) = rw (eq-eqb x x refl) (same-itself a)
-
-told_same : (xs ys : List Row) → map (λ (x : Row). x.entry) xs ≡ map (λ (x : Row). x.entry) ys → map (λ (x : Row). entry_word x.entry) xs ≡ map (λ (x : Row). entry_word x.entry) ys
-told_same xs ys e = sym (map-map entry_word (λ (x : Row). x.entry) xs) ∙ rw e (map-map entry_word (λ (x : Row). x.entry) ys)
-
-moved : (p : Pair) → (judge p).unmoved ≡ false → Unmoved p.one p.other (one_of p) (other_of p) → ⊥
-moved p h u =
-    let e : told p.one (one_of p) ≡ told p.other (other_of p) = rw (u.tokens, told_same (rows_of p.one (one_of p)) (rows_of p.other (other_of p)) u.entries) in
-    false≢true (sym h ∙ rw (u.bytes, e, same-itself (left_of p.other (other_of p)), same-itself (told p.other (other_of p))))
-
-abbrev pub AllMoved : List Pair → Type 0
-AllMoved [] = Unit {0}
-AllMoved (p ∷ ps) = (Unmoved p.one p.other (one_of p) (other_of p) → ⊥) × AllMoved ps
-
-all_moved : (ps : List Pair) → map (λ (p : Pair). (judge p).unmoved) ps ≡ map (λ (p : Pair). false) ps → AllMoved ps
-all_moved [] h = tt
-all_moved (p ∷ ps) h = (moved p (cc), all_moved ps (cc))
-
--- none of them is as the theorem says
-pub apart-moved : AllMoved apart
-apart-moved = all_moved apart (ap (map (λ (j : Judged). j.unmoved)) apart-judged)

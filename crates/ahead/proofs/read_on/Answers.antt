@@ -1,4 +1,3 @@
-use Prim.Native.Nat.{◌-◌}
 use Rattle.around.proofs.Lists.{readable_length}
 use Rattle.ahead.proofs.Laws.{reading_ends, reading_small, reading_stops, reading_turns}
 use Rattle.std.proofs.Common.{rules}

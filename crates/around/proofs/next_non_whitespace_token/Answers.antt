@@ -1,4 +1,3 @@
-use Prim.Native.Nat.{◌-◌}
 use Rattle.around.proofs.Neighbours.{by_next, by-white-on, by-none-after}
 use Rattle.std.proofs.Common.{rules}
 use Rattle.around.proofs.next_non_whitespace_token.Goals as goal

@@ -1,4 +1,3 @@
-use Prim.Native.Nat.{◌-◌}
 use mathlib.Core.Path.{sym, ◌∙◌}
 use Rattle.ascii.proofs.FindLaws.{by-run-none, by-other-byte, by_byte}
 use Rattle.std.proofs.Common.{rules}

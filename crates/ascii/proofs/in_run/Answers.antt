@@ -1,4 +1,3 @@
-use Prim.Native.Nat.{◌-◌}
 use Rattle.ascii.proofs.FindLaws.{found-more}
 use Rattle.std.proofs.Common.{rules}
 use Rattle.ascii.proofs.in_run.Goals as goal

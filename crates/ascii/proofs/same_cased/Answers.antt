@@ -1,5 +1,3 @@
-use Prim.Native.Nat.{◌-◌}
-use Rattle.rules.specs.Text.{in_case}
 use Rattle.ascii.proofs.SameLaws.{by-unlike, by-differ, by-agree}
 use Rattle.std.proofs.Common.{rules}
 use Rattle.ascii.proofs.same_cased.Goals as goal

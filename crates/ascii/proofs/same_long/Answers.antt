@@ -1,5 +1,4 @@
 use Prim.Native.Nat.{◌-◌}
-use mathlib.Core.Bool.{true}
 use mathlib.Core.Path.{sym, ◌∙◌}
 use Rattle.ascii.proofs.RunLaws.{by-start-differ, by-run-differ, by-run-agree, by-ends-agree}
 use Rattle.std.proofs.Common.{rules}

@@ -1,4 +1,3 @@
-use Prim.Native.Nat.{◌-◌}
 use Rattle.ascii.proofs.RunLaws.{told_more}
 use Rattle.std.proofs.Common.{rules}
 use Rattle.ascii.proofs.same_run.Goals as goal

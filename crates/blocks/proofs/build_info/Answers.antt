@@ -1,19 +1,4 @@
-use Prim.Native.Nat.{◌-◌}
 use Rattle.blocks.proofs.Laws.{info, measuring_starts, measuring_ends, by_next, length-room, measuring_closes, measuring_turns, measuring_rests, measuring_same}
-use Rattle.blocks.proofs.build_info.Reads as reads
-use Rattle.blocks.proofs.build_info.Lts as lts
-use Rattle.around.proofs.is_byte.Reads as is-byte-reads
-use Rattle.around.proofs.value_len.Reads as value-len-reads
-use Rattle.blocks.proofs.closes.Reads as closes-reads
-use Rattle.blocks.proofs.found_yet.Reads as found-yet-reads
-use Rattle.blocks.proofs.is_forbidden_token.Reads as is-forbidden-token-reads
-use Rattle.blocks.proofs.is_newline.Reads as is-newline-reads
-use Rattle.blocks.proofs.is_rest.Reads as is-rest-reads
-use Rattle.blocks.proofs.level_after.Reads as level-after-reads
-use Rattle.blocks.proofs.part_of.Reads as part-of-reads
-use Rattle.blocks.proofs.span_at.Reads as span-at-reads
-use Rattle.blocks.proofs.start_at.Reads as start-at-reads
-use Rattle.tokens.proofs.kind_at.Reads as kind-at-reads
 use Rattle.std.proofs.Common.{rules}
 use Rattle.blocks.proofs.build_info.Goals.{then-is_rest, else-is_rest+else-closes}
 use Rattle.blocks.proofs.build_info.Goals as goal
@@ -21,20 +6,17 @@ use Rattle.blocks.proofs.build_info.Goals as goal
 pub loop-j-init : goal.loop-j-init
 loop-j-init c =
     search (rules, measuring_starts)
-    -- src/lib.rt:221:28
 
 pub overflow_add-length : goal.overflow_add-length
 overflow_add-length c =
     let fits = length-room _ _ _ _ (info c.loop-j.length c.loop-j.level c.loop-j.start c.loop-j.span c.loop-j.forbidden c.loop-j.reserved) _ c.loop-j.invariant c.value_len-length.result c.requires.readable c.loop-j-test.true c.value_len-length.ensures in
     search (rules, fits)
-    -- src/lib.rt:223:12
 
 pub returns-then-closes : goal.returns-then-closes
 returns-then-closes c =
     let b = info c.loop-j.length c.loop-j.level c.loop-j.start c.loop-j.span c.loop-j.forbidden c.loop-j.reserved in
     let facts = by_next c.part_of-part.result c.value_len-length.result b _ _ _ _ _ c.level_after-level.ensures c.start_at-start.ensures c.span_at-span.ensures c.is_newline.ensures c.found_yet-reserved.ensures in
     measuring_closes _ _ _ _ b _ c.loop-j.invariant c.loop-j-test.true _ _ _ _ _ _ _ _ c.kind_at.ensures c.part_of-part.ensures c.value_len-length.ensures facts c.closes.ensures c.if-closes.true
-    -- src/lib.rt:241:17
 
 pub loop-j-preserved : goal.loop-j-preserved
 loop-j-preserved c =
@@ -48,7 +30,6 @@ loop-j-preserved c =
           (measuring_turns _ _ _ _ b _ c.loop-j.invariant c.loop-j-test.true _ _ _ _ _ _ _ _ c.kind_at.ensures c.part_of-part.ensures c.value_len-length.ensures
           (by_next c.part_of-part.result c.value_len-length.result b _ _ _ _ _ w.level_after-level.ensures w.start_at-start.ensures w.span_at-span.ensures w.is_newline.ensures w.found_yet-reserved.ensures) w.closes.ensures _ _ c.requires.readable w.if-closes.false w.is_forbidden_token-forbids.ensures w.found_yet-forbidden-else-is_rest.ensures)
     ]
-    -- src/lib.rt:207:1
 
 pub returns : goal.returns
 returns c =

@@ -1,5 +1,4 @@
 use mathlib.Core.Path.{◌≡◌}
-use Prim.Native.Nat.{◌-◌}
 use native.Mathlib.Omega.{arith}
 use Rattle.checks.proofs.HighLaws.{told_more, told-high}
 use Rattle.checks.proofs.any_high.Goals as goal

@@ -1,5 +1,4 @@
 use native.Mathlib.Omega.{arith}
-use Prim.Native.Nat.{◌-◌}
 use Rattle.columns.proofs.MeasureLaws.{by-eight, by-run, by_turn, by-rest}
 use Rattle.std.proofs.Common.{rules}
 use Rattle.columns.proofs.by_columns.Goals as goal

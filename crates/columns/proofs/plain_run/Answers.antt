@@ -1,4 +1,3 @@
-use Prim.Native.Nat.{◌-◌}
 use Rattle.columns.proofs.MeasureLaws.{by-more-plain}
 use Rattle.std.proofs.Common.{rules}
 use Rattle.columns.proofs.plain_run.Goals as goal

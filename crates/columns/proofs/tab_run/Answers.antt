@@ -1,4 +1,3 @@
-use Prim.Native.Nat.{◌-◌}
 use Rattle.longest.proofs.SameLaws.{by-more-same}
 use Rattle.std.proofs.Common.{rules}
 use Rattle.columns.proofs.tab_run.Goals as goal

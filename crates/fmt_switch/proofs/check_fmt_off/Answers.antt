@@ -1,4 +1,3 @@
-use Prim.Native.Nat.{◌-◌}
 use Rattle.rules.specs.Switch.{check_fmt_off}
 use Rattle.fmt_switch.specs.Of.{said_of}
 use Rattle.fmt_switch.proofs.Table.{still-state}

@@ -1,4 +1,3 @@
-use Prim.Native.Nat.{◌-◌}
 use Rattle.fmt_switch.proofs.Laws.{by-other}
 use Rattle.std.proofs.Common.{rules}
 use Rattle.fmt_switch.proofs.run_of.Goals as goal

@@ -1,4 +1,3 @@
-use Prim.Native.Nat.{◌-◌}
 use Rattle.keeps.proofs.Laws.{all_left, read-keep, by_end, by-kept, by-other}
 use Rattle.std.proofs.Common.{rules}
 use Rattle.keeps.proofs.is_keep.Goals as goal

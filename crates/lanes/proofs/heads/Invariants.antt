@@ -1,4 +1,3 @@
-use mathlib.Core.Path.{ap}
 use Prim.Native.Nat.{◌+◌, ◌-◌, ◌%◌, ◌≤◌}
 use lib.ListN.{get_or}
 use Rattle.steps.specs.Steps.{Mapped}

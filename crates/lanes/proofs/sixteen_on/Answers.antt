@@ -1,5 +1,4 @@
 use native.Mathlib.Omega.{arith}
-use Prim.Native.Nat.{◌-◌}
 use Rattle.lanes.proofs.LaneLaws.{laned_on}
 use Rattle.std.proofs.Common.{rules}
 use Rattle.lanes.proofs.sixteen_on.Goals as goal

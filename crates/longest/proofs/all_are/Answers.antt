@@ -1,4 +1,3 @@
-use Prim.Native.Nat.{◌-◌}
 use Rattle.longest.proofs.SameLaws.{by-same}
 use Rattle.std.proofs.Common.{rules}
 use Rattle.longest.proofs.all_are.Goals as goal

@@ -1,4 +1,3 @@
-use Prim.Native.Nat.{◌-◌}
 use Rattle.longest.proofs.FlagLaws.{by-set}
 use Rattle.std.proofs.Common.{rules}
 use Rattle.longest.proofs.all_flagged.Goals as goal

@@ -1,5 +1,4 @@
 use native.Mathlib.Omega.{arith}
-use Prim.Native.Nat.{◌-◌}
 use Rattle.longest.proofs.FlagLaws.{has_room, one_more}
 use Rattle.std.proofs.Common.{rules}
 use Rattle.longest.proofs.flags.Goals as goal

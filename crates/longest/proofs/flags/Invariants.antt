@@ -1,4 +1,4 @@
-use Prim.Native.Nat.{◌-◌, ◌≤◌}
+use Prim.Native.Nat.{◌≤◌}
 use Rattle.longest.proofs.FlagLaws.{Some}
 use Rattle.longest.proofs.flags.Given as goal
 

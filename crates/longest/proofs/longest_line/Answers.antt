@@ -1,4 +1,3 @@
-use Prim.Native.Nat.{◌-◌}
 use Rattle.longest.proofs.LongestLaws.{by-run, by-line}
 use Rattle.std.proofs.Common.{rules}
 use Rattle.longest.proofs.longest_line.Goals as goal

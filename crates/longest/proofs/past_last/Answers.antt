@@ -1,5 +1,4 @@
 use mathlib.Core.Path.{sym, ◌∙◌}
-use mathlib.Core.Bool.{false}
 use Prim.Native.Nat.{◌+◌, ◌-◌}
 use Rattle.longest.proofs.LongestLaws.{none_before, other_byte}
 use Rattle.std.proofs.Common.{rules}

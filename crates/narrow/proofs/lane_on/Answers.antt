@@ -1,5 +1,4 @@
 use native.Mathlib.Omega.{arith}
-use Prim.Native.Nat.{◌-◌}
 use Rattle.narrow.proofs.NarrowLaws.{lane, row_on}
 use Rattle.std.proofs.Common.{rules}
 use Rattle.narrow.proofs.lane_on.Goals as goal

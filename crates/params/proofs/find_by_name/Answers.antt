@@ -1,4 +1,3 @@
-use Prim.Native.Nat.{◌-◌}
 use Rattle.params.proofs.EntryLaws.{read_name, all_left, by_end, by-named, by-other}
 use Rattle.std.proofs.Common.{rules}
 use Rattle.params.proofs.find_by_name.Goals as goal

@@ -1,4 +1,4 @@
-use Rattle.std.proofs.Common.{◌+◌, ◌-◌, ◌≤◌, get_or, ap}
+use Rattle.std.proofs.Common.{◌+◌, ◌-◌, ◌≤◌, get_or}
 use Rattle.steps.specs.Steps.{Mapped}
 use Rattle.steps.proofs.add.Given as goal
 

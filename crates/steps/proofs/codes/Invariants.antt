@@ -1,4 +1,4 @@
-use Rattle.std.proofs.Common.{◌-◌, ◌≤◌, ap}
+use Rattle.std.proofs.Common.{◌-◌, ◌≤◌}
 use Rattle.steps.specs.Steps.{code_of, Mapped}
 use Rattle.steps.proofs.codes.Given as goal
 

@@ -1,4 +1,3 @@
-use Prim.Native.Nat.{◌-◌}
 use Rattle.text.proofs.PutLaws.{by-none, by_copy}
 use Rattle.std.proofs.Common.{rules}
 use Rattle.text.proofs.copy.Goals as goal

@@ -1,4 +1,3 @@
-use Prim.Native.Nat.{◌-◌}
 use Rattle.text.proofs.PutLaws.{by-none, by-fill}
 use Rattle.std.proofs.Common.{rules}
 use Rattle.text.proofs.fill.Goals as goal

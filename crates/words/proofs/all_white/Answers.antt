@@ -1,4 +1,3 @@
-use Prim.Native.Nat.{◌-◌}
 use Rattle.words.proofs.BlockLaws.{by-one-more}
 use Rattle.std.proofs.Common.{rules}
 use Rattle.words.proofs.all_white.Goals as goal

@@ -1,4 +1,3 @@
-use Prim.Native.Nat.{◌-◌}
 use Rattle.words.proofs.CommentLaws.{by-last-line, by-comment, by-comment-end}
 use Rattle.std.proofs.Common.{rules}
 use Rattle.words.proofs.append_comment.Goals as goal

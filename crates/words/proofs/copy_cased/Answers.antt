@@ -1,4 +1,3 @@
-use Prim.Native.Nat.{◌-◌}
 use Rattle.text.proofs.PutLaws.{by-none}
 use Rattle.words.proofs.CaseLaws.{by-cased}
 use Rattle.std.proofs.Common.{rules}

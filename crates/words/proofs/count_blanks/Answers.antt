@@ -1,4 +1,3 @@
-use Prim.Native.Nat.{◌-◌}
 use borrow.Author.Tests.{not-true}
 use Rattle.words.proofs.CommentLaws.{by-other}
 use Rattle.std.proofs.Common.{rules}

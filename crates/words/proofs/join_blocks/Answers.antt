@@ -1,4 +1,4 @@
-use Prim.Native.Nat.{◌+◌, ◌-◌, ◌≤◌}
+use Prim.Native.Nat.{◌+◌, ◌≤◌}
 use lib.ListN.{length}
 use Rattle.words.proofs.CopyLaws.{by-from}
 use Rattle.words.proofs.BlockLaws.{by-start, by-white-run, by-run-room, by-black-run, by-block-room, by-block}

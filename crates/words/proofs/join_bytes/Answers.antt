@@ -1,4 +1,3 @@
-use Prim.Native.Nat.{◌-◌}
 use Rattle.words.proofs.CopyLaws.{by-none-joined, by-white, by-byte-room, by-black}
 use Rattle.std.proofs.Common.{rules}
 use Rattle.words.proofs.join_bytes.Goals as goal

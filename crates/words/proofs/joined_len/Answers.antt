@@ -1,5 +1,5 @@
 use native.Mathlib.Omega.{arith}
-use Prim.Native.Nat.{◌+◌, ◌-◌, ◌≤◌}
+use Prim.Native.Nat.{◌+◌, ◌≤◌}
 use Rattle.words.proofs.RoomLaws.{joined-short, by-count-start, by-count-white, by-count-black, by-count-fits}
 use Rattle.std.proofs.Common.{rules}
 use Rattle.words.proofs.joined_len.Goals as goal

@@ -1,5 +1,3 @@
-use Prim.Native.Nat.{◌-◌}
-use Rattle.words.specs.Words.{all_white}
 use Rattle.words.proofs.BlockLaws.{by-block-more}
 use Rattle.std.proofs.Common.{rules}
 use Rattle.words.proofs.run_of.Goals as goal

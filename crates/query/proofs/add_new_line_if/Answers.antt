@@ -1,0 +1,11 @@
+use Rattle.query.proofs.Laws.{by-when, by-unless}
+use Rattle.std.proofs.Common.{rules}
+use Rattle.query.proofs.add_new_line_if.Goals as goal
+
+pub returns-then-b : goal.returns-then-b
+returns-then-b c =
+    search (rules, by-when)
+
+pub returns : goal.returns
+returns c =
+    search (rules, by-unless)

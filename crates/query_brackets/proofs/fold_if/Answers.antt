@@ -1,0 +1,13 @@
+use Rattle.query.specs.Query.{blank, fold}
+use Rattle.query.proofs.Laws.{by-when, by-unless, then_append}
+use Rattle.std.proofs.Common.{rules}
+use Rattle.query_brackets.proofs.fold_if.Goals as goal
+
+pub returns-then-b : goal.returns-then-b
+unfolding fold blank
+returns-then-b c =
+    search (rules, by-when, then_append)
+
+pub returns : goal.returns
+returns c =
+    search (rules, by-unless)

@@ -1,0 +1,9 @@
+use Rattle.query.specs.Query.{blank, with_spaces}
+use Rattle.query.proofs.Laws.{then_append}
+use Rattle.std.proofs.Common.{rules}
+use Rattle.query_reserved.proofs.format_reserved.Goals as goal
+
+pub returns : goal.returns
+unfolding with_spaces blank
+returns c =
+    search (rules, then_append)
