@@ -82,11 +82,10 @@ fn write_unopened(
     error: io::Error,
 ) -> io::Result<()> {
     let told = format!(in rt.alloc(); "{error}")?;
-    let words = match told.split_once(" (os error ") {
-        Some((words, _)) => words,
-        None => told.as_str(),
-    };
-    eprintln!(rt; "{path}: {words}")
+    match told.split_once(" (os error ") {
+        Some((words, _)) => eprintln!(rt; "{path}: {words}"),
+        None => eprintln!(rt; "{path}: {told}"),
+    }
 }
 
 fn main(rt: HostRuntime) -> io::Result<()> {
