@@ -13,7 +13,7 @@ use Rattle.rules.specs.declared.Checked.TheVariants as found
 use Rattle.rules.specs.declared.Counts.{Counts}
 use Rattle.rules.specs.Sheet.{env_of, tokens_of}
 use Rattle.rules.specs.Checks.{checked}
-use Rattle.rules.specs.Answer.{Answer, refusal, is_withdrawn, answer_as, answer, format, report_of, buffer_of, reported, buffer_after}
+use Rattle.rules.specs.Answer.{refusal, is_withdrawn, answer_as, answer, format, report_of, buffer_of, reported, buffer_after}
 use Rattle.std.specs.Prelude.{if◌then◌else◌}
 use Rattle.rules.specs.Rows.{rows, placeholders, to_lay_out, is_short, listed_as, listed, list_for, list_as, listed_report, listed_buffer, list_after}
 use Rattle.records.specs.Sheeted.{Sheeted}

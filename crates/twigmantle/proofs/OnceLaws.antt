@@ -11,7 +11,6 @@ use Rattle.rules.specs.declared.Checked.{Checked}
 use Rattle.rules.specs.declared.Checked.TheVariants as found
 use Rattle.rules.specs.declared.Counts.{Counts}
 use Rattle.rules.specs.declared.Report.{Report}
-use Rattle.std.specs.Prelude.{if◌then◌else◌}
 use Rattle.rules.specs.Checks.{checked}
 use Rattle.rules.specs.Answer.{refusal, is_withdrawn, answer_as, answer, report_of, buffer_of, reported, buffer_after}
 use Rattle.rules.specs.Rows.{to_lay_out, is_short, listed_as, list_for, list_as, listed, listed_report, listed_buffer, list_after}

@@ -1,5 +1,5 @@
 -- Wish 7: the layout calls with a table of m words, six for each token. Refusal 12 comes after 4 and 14 and before 10; else the answer is the plain call's.
-use Rattle.std.specs.Prelude.{if◌then◌else◌, ◌≡◌, Bool, true, false, not, ◌&&◌, List, ℕ, ◌*◌, ltb, replicate}
+use Rattle.std.specs.Prelude.{if◌then◌else◌, Bool, true, false, not, ◌&&◌, List, ℕ, ◌*◌, ltb, replicate}
 use Rattle.rules.specs.declared.Checked.{Checked}
 use Rattle.rules.specs.declared.Checked.TheVariants as found
 use Rattle.rules.specs.Checks.{checked}

@@ -10,7 +10,6 @@ use lib.Seq.{take-append_seam, drop-append_seam, drop-append-add}
 use Rattle.std.specs.Prelude.{if◌then◌else◌}
 use Rattle.rules.specs.Text.{is_white, trim_start, trim_end, trimmed}
 use Rattle.rules.specs.Rows.{Row, between, clip, shift, trim_row}
-use Rattle.rules.specs.Due.{white}
 use Rattle.rules.proofs.Strip.{white-true}
 use Rattle.unmoved.specs.Unmoved.{firm, removed, left}
 use Rattle.unmoved.proofs.Items.{Item, byte, hole, pick, bytes_on, expand, firm-ends, pick-firm, trim, expand-trim, Spot, spots_of, spots-trim, Within, within_all}

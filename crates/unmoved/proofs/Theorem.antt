@@ -22,7 +22,7 @@ use Rattle.rules.proofs.Rows.{rows-tokens, rows-entries}
 use Rattle.rules.proofs.Listed.{first-call, list_length}
 use Rattle.checks.proofs.Sound.{sound-sheeted}
 use Rattle.twigmantle.specs.Once.{lacks_table, once_as, list_once_as, once_listed, once_list}
-use Rattle.unmoved.specs.Unmoved.{shape, Common, common_of, values, firm_in, Alike, Engine, plain, once, called, rows_of, left, left_of, Unmoved}
+use Rattle.unmoved.specs.Unmoved.{shape, Common, common_of, firm_in, Alike, Engine, plain, once, called, rows_of, left, left_of, Unmoved}
 use Rattle.unmoved.proofs.Shape.{shown-tokens, shown-entries}
 use Rattle.unmoved.proofs.Run.{LeftSame, left-same}
 use Rattle.unmoved.proofs.Words.{rows-read}

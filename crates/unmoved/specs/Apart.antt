@@ -1,8 +1,5 @@
 -- Why each premise of Wish 14 stands: pairs of sheets that meet all of them but one, and come apart; and some that meet all. Tables, read from the sheets' bytes.
 use Rattle.std.specs.Prelude.{◌≡◌, refl, Bool, true, false, ◌&&◌, List, [], ◌∷◌, ◌++◌, map, ℕ}
-use Rattle.std.proofs.Common.{sym, ap, ◌∙◌, eq-eqb}
-use Rattle.std.proofs.lemmas.Bool.{false≢true}
-use Rattle.std.proofs.lemmas.Simd.{map-map}
 use Prim.Native.String.{String}
 use Rattle.rules.specs.declared.TokenKind.TheVariants as kind
 use Rattle.rules.specs.Bytes.{bytes}
@@ -13,9 +10,8 @@ use Rattle.rules.specs.Encode.{encode}
 use Rattle.rules.specs.Rows.{Row, entry_word}
 use Rattle.rules.specs.Computed.{computed, computed_list}
 use Rattle.rules.specs.Sheets.{W, T, P, unset, options, default, ample, line}
-use Rattle.rows.specs.Listing.{start_at, len_at, entry_of, row_of, row_at, rows_in}
 use Rattle.unmoved.specs.Remains.{selected}
-use Rattle.unmoved.specs.Unmoved.{shape, Common, common_of, values, firm, all_firm, firm_in, Result, plain, called, rows_of, removed, left, left_of, Unmoved}
+use Rattle.unmoved.specs.Unmoved.{shape, Common, common_of, firm, firm_in, Result, plain, called, rows_of, left_of, Unmoved}
 
 -- ---- a pair
 

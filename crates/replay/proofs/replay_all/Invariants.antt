@@ -1,5 +1,4 @@
-use Rattle.std.proofs.Common.{◌-◌, ◌+◌, ◌≤◌, length, IfOk, ◌≡◌, ℕ, ◌*◌, ◌<◌}
-use Rattle.std.specs.Io.{ReadsAtMost}
+use Rattle.std.proofs.Common.{◌-◌, ◌≤◌}
 use Rattle.replay.proofs.replay_all.Given as goal
 
 abbrev pub invariant-loop-all : goal.invariant-loop-all
