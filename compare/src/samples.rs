@@ -376,7 +376,7 @@ repository's root, after `(cd crates/sheet && rt run < stdin)`:
     crates/sheet/out/sheet < samples/join.sheet
     for s in samples/*.sheet; do crates/sheet/out/sheet < $s | cmp - ${s%sheet}text && echo $s; done
 
-The program ends with 0 on a refusal too: the first word says which it is.
+The program ends with 0 on a refusal too: the first word says which it is. The other programs are built in their folders in the same way (`README.md`).
 
 Made by `compare/target/release/compare samples samples` (`docs/comparison.md`) from `compare/src/samples.rs`, where the tokens stand with their kinds. The
 texts are the Rust's own, but for `inline` 2, which the Rust has not; that one and the refusals are the model's.
