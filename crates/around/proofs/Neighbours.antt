@@ -1,6 +1,6 @@
 -- The neighbours of a token, and what the rules ask of them.
 use mathlib.Core.Bool.{Bool, true, false, not, ◌&&◌, ◌||◌, and-false, or-false}
-use mathlib.Core.Option.{Option, none, some}
+use Rattle.std.specs.Prelude.{Option, None, Some}
 use mathlib.Core.Path.{◌≡◌, refl, ap, sym, ◌∙◌}
 use mathlib.Core.List.{List, [], ◌∷◌, tail}
 use Prim.Native.Nat.{ℕ, zero, suc, ◌+◌, ◌-◌, ◌*◌, ◌≤◌, ◌<◌}
@@ -168,8 +168,8 @@ module _ (s : List ℕ) (base n i : ℕ) where
 -- ---- what is asked of the kind of a token that may be missing, w being its nober, or 17
 
 asked : (p : Token → Bool) (f : ℕ → Bool) (o : Option Token) (q : Seen) (w : ℕ) → f 17 ≡ false → ((t : Token) → f (kind_no t.kind) ≡ p t) → q ≡ seen_of o → w ≡ seen_no q → f w ≡ holds p o
-asked p f none q w miss hit e num = rw (num, e) miss
-asked p f (some t) q w miss hit e num = rw (num, e) (hit t)
+asked p f None q w miss hit e num = rw (num, e) miss
+asked p f (Some t) q w miss hit e num = rw (num, e) (hit t)
 
 module _ (h : Here) (q : Seen) (w : ℕ) (num : w ≡ seen_no q) where
   pub by-line-comment : q ≡ seen_of (previous_non_whitespace_token h) → eqb w 11 ≡ after_line_comment h

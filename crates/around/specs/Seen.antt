@@ -1,13 +1,12 @@
 -- The kind of a token that may be missing.
-use Rattle.std.proofs.Math.Option.{Option, none, some}
-use Rattle.std.specs.Prelude.{ℕ}
+use Rattle.std.specs.Prelude.{Option, None, Some, ℕ}
 use Rattle.rules.specs.Tokens.{Token, kind_no}
 use Rattle.around.specs.declared.Seen.{Seen}
 use Rattle.around.specs.declared.Seen.TheVariants as seen
 
 abbrev pub seen_of : Option Token → Seen
-seen_of none = seen.Nothing
-seen_of (some t) = seen.Kind t.kind
+seen_of None = seen.Nothing
+seen_of (Some t) = seen.Kind t.kind
 
 -- its number; 17, which is no kind's, where it is missing
 abbrev pub seen_no : Seen → ℕ

@@ -1,4 +1,5 @@
 -- An opening bracket: its tests, and its rule from what its calls gave. Assumes nothing.
+use Rattle.std.specs.Prelude.{is_some}
 use mathlib.Core.Path.{◌≡◌, refl, sym, ◌∙◌}
 use mathlib.Core.Bool.{Bool, true, false, not, ◌&&◌}
 use mathlib.Core.List.{List}
@@ -13,7 +14,7 @@ use Rattle.rules.specs.declared.Case.{Case}
 use Rattle.rules.specs.declared.FormatOptions.{FormatOptions}
 use Rattle.rules.specs.declared.SpanInfo.{SpanInfo}
 use Rattle.rules.specs.declared.TokenKind.TheVariants.{ReservedTopLevel}
-use Rattle.rules.specs.Base.{holds, is_some, full}
+use Rattle.rules.specs.Base.{holds, full}
 use Rattle.rules.specs.Bytes.{bytes as text}
 use Rattle.rules.specs.Sheet.{env_of}
 use Rattle.rules.specs.Text.{Text, in_case, is_lower}

@@ -1,29 +1,28 @@
 -- The first offence, a record at a time.
+use Rattle.std.specs.Prelude.{None, Option, Some, ℕ}
 use mathlib.Core.Bool.{Bool, true, false}
 use mathlib.Core.Path.{◌≡◌, refl, ap, sym, ◌∙◌}
 use Prim.Native.Nat.{ℕ, zero, suc, ◌+◌, ◌-◌, ◌*◌, ◌≤◌, ◌<◌}
 use native.Mathlib.Omega.{arith}
 use native.Mathlib.Nat.{mul-suc}
-use Rattle.rules.specs.declared.Offence.{Offence}
-use Rattle.rules.specs.declared.Offence.TheVariants.{At, Nowhere}
 use Rattle.rules.specs.Checks.{or_later, first_of}
 use Rattle.checks.specs.Table.{is_found}
 
-or_found : (o later : Offence) → is_found o ≡ true → o ≡ or_later o later
-or_found (At p) later h = refl
-or_found Nowhere later h = cc
+or_found : (o later : Option ℕ) → is_found o ≡ true → o ≡ or_later o later
+or_found (Some p) later h = refl
+or_found None later h = cc
 
-or_not : (o later : Offence) → is_found o ≡ false → or_later o later ≡ later
-or_not (At p) later h = cc
-or_not Nowhere later h = refl
+or_not : (o later : Option ℕ) → is_found o ≡ false → or_later o later ≡ later
+or_not (Some p) later h = cc
+or_not None later h = refl
 
-module _ (f : ℕ → Offence) (size at left : ℕ) (all : Offence) (inv : first_of f size at left ≡ all) where
+module _ (f : ℕ → Option ℕ) (size at left : ℕ) (all : Option ℕ) (inv : first_of f size at left ≡ all) where
   -- at the end of the table
-  pub first-none : left ≤ 0 → Nowhere ≡ all
+  pub first-none : left ≤ 0 → None ≡ all
   unfolding first_of
   first-none h = let z : left ≡ 0 = omega arith in rw z at inv
 
-  module _ (h : 0 < left) (o : Offence) (ho : o ≡ f at) (r : Bool) (hr : r ≡ is_found o) where
+  module _ (h : 0 < left) (o : Option ℕ) (ho : o ≡ f at) (r : Bool) (hr : r ≡ is_found o) where
     step : first_of f size at left ≡ or_later o (first_of f size (at + size) (left - 1))
     unfolding first_of
     step = let e : left ≡ suc (left - 1) = omega arith in rw ho (ap (first_of f size at) e)

@@ -1,4 +1,5 @@
 -- Bytes taken together by `|`: the whole is below 128 exactly where each is.
+use Rattle.std.specs.Prelude.{None, Option, Some, ℕ}
 use mathlib.Core.Bool.{Bool, true, false}
 use mathlib.Core.Path.{◌≡◌, refl}
 use mathlib.Core.List.{List}
@@ -9,8 +10,6 @@ use borrow.Author.Tests.{lt-ltb, leb-true, leb-false}
 use lib.Bits.{bit_or, or_add_and, or_lt, and_le_l, and_le_r}
 use lib.Dec.{leb}
 use lib.ListN.{get_or}
-use Rattle.rules.specs.declared.Offence.{Offence}
-use Rattle.rules.specs.declared.Offence.TheVariants.{At, Nowhere}
 use Rattle.rules.specs.Checks.{first_of, body_byte}
 use Rattle.checks.specs.Table.{is_found}
 use Rattle.checks.proofs.Passes.{Ascii, none-ascii}
@@ -32,7 +31,7 @@ told_more s from i all t =
       each = λ h. or_lt 7 all b (t.each (λ k l. h k (omega arith))) (h i (omega arith));
     }
 
-ascii-none : (s : List ℕ) (from k : ℕ) → Ascii s from k → first_of (body_byte s) 1 from k ≡ Nowhere
+ascii-none : (s : List ℕ) (from k : ℕ) → Ascii s from k → first_of (body_byte s) 1 from k ≡ None
 unfolding first_of body_byte
 ascii-none s from zero h = refl
 ascii-none s from (suc k) h =
@@ -41,17 +40,17 @@ ascii-none s from (suc k) h =
     rw (lt-ltb _ _ l) (ascii-none s (from + 1) k (λ i m. let e : from + 1 + i ≡ from + (i + 1) = omega arith in rw e (h (i + 1) (omega arith))))
 
 module _ (s : List ℕ) (from k all : ℕ) (t : Told s from k all) where
-  told-by : (o : Offence) → first_of (body_byte s) 1 from k ≡ o → (b : Bool) → leb 128 all ≡ b → b ≡ is_found o
-  told-by Nowhere h false e = refl
-  told-by Nowhere h true e = absurd (omega (arith, leb-true 128 all e, t.each (none-ascii s from k h)))
-  told-by (At p) h true e = refl
-  told-by (At p) h false e =
+  told-by : (o : Option ℕ) → first_of (body_byte s) 1 from k ≡ o → (b : Bool) → leb 128 all ≡ b → b ≡ is_found o
+  told-by None h false e = refl
+  told-by None h true e = absurd (omega (arith, leb-true 128 all e, t.each (none-ascii s from k h)))
+  told-by (Some p) h true e = refl
+  told-by (Some p) h false e =
       let n = ascii-none s from k (t.low (leb-false 128 all e)) in
       absurd (let z : ◌≡◌ {A = ℕ} 0 1 = cc in omega arith)
 
   pub told-high : leb 128 all ≡ is_found (first_of (body_byte s) 1 from k)
   told-high = told-by (first_of (body_byte s) 1 from k) refl (leb 128 all) refl
 
-pub not_found : (o : Offence) (r : Bool) → r ≡ is_found o → r ≡ false → Nowhere ≡ o
-not_found Nowhere r h e = refl
-not_found (At p) r h e = absurd (let z : ◌≡◌ {A = ℕ} 0 1 = cc in omega arith)
+pub not_found : (o : Option ℕ) (r : Bool) → r ≡ is_found o → r ≡ false → None ≡ o
+not_found None r h e = refl
+not_found (Some p) r h e = absurd (let z : ◌≡◌ {A = ℕ} 0 1 = cc in omega arith)

@@ -12,9 +12,8 @@ use lib.ListN.{length, take, drop, set, get_or, replicate, length-append, length
 use borrow.Author.Tests.{lt-ltb, le-ltb, eq-eqb, ne_eqb}
 use Rattle.rules.specs.declared.Place.{Place}
 use Rattle.rules.specs.declared.Counts.{Counts}
-use Rattle.rules.specs.declared.Checked.TheVariants as found
 use Rattle.rules.specs.declared.Outcome.{Outcome}
-use Rattle.std.specs.Prelude.{if◌then◌else◌}
+use Rattle.std.specs.Prelude.{if◌then◌else◌, Ok}
 use Rattle.rules.specs.Words.{word_bytes, place_at, body_at}
 use Rattle.rules.specs.Compacted.{word_count, starts_place, is_covered, kept_bytes, kept_before, new_start, new_bytes, moved_words, compacted, compact_as, outcome_of, buffer_with}
 use Rattle.records.specs.Sheeted.{Sheeted}
@@ -186,7 +185,7 @@ module _ (s : List ℕ) (c : Counts) (h : Sheeted s c) where
 
   module _ (d d₁ : List ℕ) (base kept : ℕ) (eb : base ≡ body_at c) (ek : kept ≡ kept_before s c c.bytes) (cleared : d₁ ≡ put d 0 (replicate (length d) 0)) where
     abbrev Told : Outcome → List ℕ → Type 0
-    Told r q = (r ≡ outcome_of (compact_as s (length d) (found.Sound c))) × (q ≡ buffer_with (length d) (compact_as s (length d) (found.Sound c)))
+    Told r q = (r ≡ outcome_of (compact_as s (length d) (Ok c))) × (q ≡ buffer_with (length d) (compact_as s (length d) (Ok c)))
 
     all-zero : d₁ ≡ replicate (length d) 0
     unfolding put

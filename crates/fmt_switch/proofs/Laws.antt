@@ -1,7 +1,7 @@
 -- Laws of the switch. Assumes nothing.
 use mathlib.Core.Path.{◌≡◌, refl, sym, ap, ◌∙◌}
 use mathlib.Core.Bool.{Bool, true, false}
-use mathlib.Core.Option.{Option, none, some}
+use Rattle.std.specs.Prelude.{Option, None, Some}
 use mathlib.Core.List.{List, [], ◌∷◌}
 use Prim.Native.Nat.{ℕ, suc, ◌+◌, ◌-◌, ◌≤◌, ◌<◌}
 use native.Mathlib.Numerals.{add-one}
@@ -76,19 +76,19 @@ module _ (s : List ℕ) (start n i state : ℕ) (m : Move) (r : Reading) (h : i 
   unfolding answered
   answers o q = ap answered (sym (done-stays o (rest s start n (i + 1))) ∙ (rw q at one-read))
 
-  pub by-on : m ≡ move.On → some false ≡ answered r
+  pub by-on : m ≡ move.On → Some false ≡ answered r
   unfolding moved_as
-  by-on q = answers (some false) (rw q)
+  by-on q = answers (Some false) (rw q)
 
-  pub by-off : m ≡ move.Off → some true ≡ answered r
+  pub by-off : m ≡ move.Off → Some true ≡ answered r
   unfolding moved_as
-  by-off q = answers (some true) (rw q)
+  by-off q = answers (Some true) (rw q)
 
-  pub by-nothing : m ≡ move.Ends → none ≡ answered r
+  pub by-nothing : m ≡ move.Ends → None ≡ answered r
   unfolding moved_as
-  by-nothing q = answers none (rw q)
+  by-nothing q = answers None (rw q)
 
-pub by_read : (s : List ℕ) (start n i state : ℕ) (r : Reading) → start + n ≤ length s → n ≤ i → read_all (in_state state) (rest s start n i) ≡ r → none ≡ answered r
+pub by_read : (s : List ℕ) (start n i state : ℕ) (r : Reading) → start + n ≤ length s → n ≤ i → read_all (in_state state) (rest s start n i) ≡ r → None ≡ answered r
 unfolding answered read_all
 by_read s start n i state r l h e =
     let f : read_all (in_state state) (rest s start n i) ≡ in_state state = rw (part_end s start n i l h) in
@@ -154,7 +154,7 @@ module _ (w : Code) (k : TokenKind) (v : List ℕ) where
   unfolding turn_of switch_of switch_in
   by-comment b x r d e t f g = rw (g, d, ← e, t, f)
 
-  pub by-plain : (b : Bool) (r : Turn) → w.drop_next ≡ false → b ≡ is_comment k → b ≡ false → r ≡ turn_by w.enabled none → r ≡ turn_of (switch_of w) k v
+  pub by-plain : (b : Bool) (r : Turn) → w.drop_next ≡ false → b ≡ is_comment k → b ≡ false → r ≡ turn_by w.enabled None → r ≡ turn_of (switch_of w) k v
   unfolding turn_of switch_of switch_in
   by-plain b r d e t g = rw (g, d, ← e, t)
 
@@ -167,6 +167,6 @@ module _ (enabled : Bool) (x : Said) where
   unfolding said_of turn_by
   by-said-off q = rw q
 
-  pub by-said-nothing : (r : Turn) → x ≡ said.Nothing → r ≡ turn_by enabled none → r ≡ turn_by enabled (said_of x)
+  pub by-said-nothing : (r : Turn) → x ≡ said.Nothing → r ≡ turn_by enabled None → r ≡ turn_by enabled (said_of x)
   unfolding said_of
   by-said-nothing r q g = rw q g

@@ -2,7 +2,7 @@
 use mathlib.Core.Path.{◌≡◌, refl, sym, ap, ◌∙◌}
 use mathlib.Core.Logic.{⊎_elim}
 use mathlib.Core.Bool.{Bool, true, false, ◌||◌}
-use mathlib.Core.Option.{Option, none, some}
+use Rattle.std.specs.Prelude.{Option, None, Some, if◌then◌else◌}
 use mathlib.Core.List.{List, [], ◌∷◌, ◌++◌, map}
 use Prim.Native.String.{String}
 use Prim.Native.Nat.{ℕ, zero, suc, ◌+◌, ◌<◌}
@@ -14,7 +14,6 @@ use borrow.Author.Tests.{eqb-true}
 use Rattle.stacks.proofs.StackLaws.{same_or}
 use Rattle.rules.specs.Bytes.{bytes}
 use Rattle.rules.specs.Base.{any_of, first}
-use Rattle.std.specs.Prelude.{if◌then◌else◌}
 use Rattle.rules.specs.Switch.{answer, OnLetters, ◌↪◌, fmt_table, in_state, moved_by, moved_to, moved}
 use Rattle.fmt_switch.specs.declared.Move.{Move}
 use Rattle.fmt_switch.specs.declared.Move.TheVariants as move
@@ -121,11 +120,11 @@ module _ (state c : ℕ) (e : OnByte) (rest : List OnLetters) (b : Bool) (eb : b
       go move.Off = rw (has-is, h)
       go move.Ends = refl
 
-  taken-by : b ≡ true → (e.2 ≡ move.Ends → found c rest ≡ none) → moved_as state e.2 ≡ moved_to state (found c (entry_of e ++ rest))
+  taken-by : b ≡ true → (e.2 ≡ move.Ends → found c rest ≡ None) → moved_as state e.2 ≡ moved_to state (found c (entry_of e ++ rest))
   unfolding entry_of says_on moved_as moved_to moved_by
   taken-by h ends = go e.2 ends
     where
-      go : (m : Move) → (m ≡ move.Ends → found c rest ≡ none) → moved_as state m ≡ moved_to state (found c (says_on m (letters_of e.0 e.1) ++ rest))
+      go : (m : Move) → (m ≡ move.Ends → found c rest ≡ None) → moved_as state m ≡ moved_to state (found c (says_on m (letters_of e.0 e.1) ++ rest))
       go move.Stay z = rw (has-is, h)
       go move.Next z = rw (has-is, h)
       go move.On z = rw (has-is, h)
@@ -162,7 +161,7 @@ module _ (state c : ℕ) (row : Row) (said : row_of row ≡ get_or fmt_table sta
 
 -- ---- the last state has no next
 
-last-answers : (b : Bool) → moved_to 8 (if b then some ("fF" ↪ answer true) else none) ≡ in_state 9 → ⊥
+last-answers : (b : Bool) → moved_to 8 (if b then Some ("fF" ↪ answer true) else None) ≡ in_state 9 → ⊥
 unfolding moved_to moved_by ◌↪◌
 last-answers true e = let z : ◌≡◌ {A = ℕ} 0 1 = cc in omega arith
 last-answers false e = let z : ◌≡◌ {A = ℕ} 0 1 = cc in omega arith

@@ -1,7 +1,7 @@
 -- Two results that stand for the same answer, or for the same switch, are one. Assumes nothing.
 use mathlib.Core.Path.{◌≡◌, refl, sym, ap, ◌∙◌}
 use mathlib.Core.Bool.{Bool, true, false}
-use mathlib.Core.Option.{Option, none, some}
+use Rattle.std.specs.Prelude.{Option, None, Some}
 use Rattle.rules.specs.Switch.{Switch}
 use Rattle.fmt_switch.specs.declared.Said.{Said}
 use Rattle.fmt_switch.specs.declared.Said.TheVariants as said
@@ -10,9 +10,9 @@ use Rattle.fmt_switch.specs.Of.{said_of, switch_of}
 
 -- back from what is said
 said-by : Option Bool → Said
-said-by (some true) = said.Off
-said-by (some false) = said.On
-said-by none = said.Nothing
+said-by (Some true) = said.Off
+said-by (Some false) = said.On
+said-by None = said.Nothing
 
 said-back : (r : Said) → said-by (said_of r) ≡ r
 unfolding said-by said_of

@@ -1,6 +1,5 @@
 -- What the code's moves, answers and switch stand for.
-use Rattle.std.specs.Prelude.{if◌then◌else◌, Bool, true, false, List, [], ◌∷◌, ◌++◌, ℕ, suc, eqb}
-use Rattle.std.proofs.Math.Option.{Option, none, some}
+use Rattle.std.specs.Prelude.{if◌then◌else◌, Bool, true, false, List, [], ◌∷◌, ◌++◌, ℕ, suc, eqb, Option, None, Some}
 use Rattle.rules.specs.declared.TokenKind.{TokenKind}
 use Rattle.rules.specs.declared.TokenKind.TheVariants as kind
 use Rattle.rules.specs.Tokens.{one_of}
@@ -47,9 +46,9 @@ says_nothing r = ends r.0.2
 unfoldable pub moved_as : ℕ → Move → Reading
 moved_as state move.Stay = in_state state
 moved_as state move.Next = in_state (suc state)
-moved_as state move.On = done (some false)
-moved_as state move.Off = done (some true)
-moved_as state move.Ends = done none
+moved_as state move.On = done (Some false)
+moved_as state move.Off = done (Some true)
+moved_as state move.Ends = done None
 
 -- how many bytes at the start are c
 abbrev pub run_of : ℕ → List ℕ → ℕ
@@ -61,9 +60,9 @@ is_comment k = one_of (kind.LineComment ∷ kind.BlockComment ∷ []) k
 
 -- that it switches off, or on
 unfoldable pub said_of : Said → Option Bool
-said_of said.On = some false
-said_of said.Off = some true
-said_of said.Nothing = none
+said_of said.On = Some false
+said_of said.Off = Some true
+said_of said.Nothing = None
 
 unfoldable pub switch_of : Code → Switch
 switch_of w = record { enabled = w.enabled; drop_next = w.drop_next }

@@ -1,7 +1,9 @@
 -- What the call's verdict says: the definition's numbers are the wish's sentence. Assumes nothing.
+use Rattle.rules.specs.declared.Offence.TheVariants as offence
+use Rattle.rules.specs.declared.Offence.{Offence}
 use mathlib.Core.Path.{◌≡◌, refl, sym, ap, subst, ◌∙◌}
 use mathlib.Core.Bool.{Bool, true, false, not, ◌&&◌, false≢true}
-use mathlib.Core.Option.{Option, none, some}
+use Rattle.std.specs.Prelude.{Option, None, Some, if◌then◌else◌, Err, Ok, Result}
 use mathlib.Core.List.{List, [], ◌∷◌, ◌++◌, append_assoc, append-nil}
 use Prim.Native.Nat.{ℕ, zero, suc, ◌+◌, ◌≤◌, ◌<◌}
 use native.Mathlib.Omega.{arith}
@@ -11,10 +13,7 @@ use lib.Seq.{take-length}
 use borrow.Author.Tests.{eqb-true, eqb-false, not-true, not-false}
 use Rattle.rules.specs.declared.Case.{Case}
 use Rattle.rules.specs.declared.Counts.{Counts}
-use Rattle.rules.specs.declared.Checked.{Checked}
-use Rattle.rules.specs.declared.Checked.TheVariants as found
 use Rattle.rules.specs.Base.{same, any_of, find}
-use Rattle.std.specs.Prelude.{if◌then◌else◌}
 use Rattle.rules.specs.Tokens.{Token}
 use Rattle.rules.specs.Checks.{checked}
 use Rattle.rules.specs.Sheet.{list_of, token_of, options_of, params_of, keeps_of, QueryParams, Env, env_of, tokens_of}
@@ -39,17 +38,17 @@ module _ (p : ℕ → Bool) where
     pub none_before : (m : ℕ) → i ≤ m → m < j → p m ≡ false
 
   Finds : ℕ → ℕ → Option ℕ → Type 0
-  Finds i k none = (m : ℕ) → i ≤ m → m < i + k → p m ≡ false
-  Finds i k (some j) = First i k j
+  Finds i k None = (m : ℕ) → i ≤ m → m < i + k → p m ≡ false
+  Finds i k (Some j) = First i k j
 
   finds-next : (i k : ℕ) (o : Option ℕ) → p i ≡ false → Finds (suc i) k o → Finds i (suc k) o
   unfolding Finds
-  finds-next i k none e f = λ m low high. by-eq m low high (eqb m i) refl
+  finds-next i k None e f = λ m low high. by-eq m low high (eqb m i) refl
     where
       by-eq : (m : ℕ) → i ≤ m → m < i + suc k → (b : Bool) → eqb m i ≡ b → p m ≡ false
       by-eq m low high true q = rw (eqb-true m i q) e
       by-eq m low high false q = let n = eqb-false m i q in f m (omega arith) (omega arith)
-  finds-next i k (some j) e f =
+  finds-next i k (Some j) e f =
       let low = f.low in
       let high = f.high in
       record { holds = f.holds; low = omega arith; high = omega arith; none_before = λ m l h. by-eq m l h (eqb m i) refl }
@@ -63,7 +62,7 @@ module _ (p : ℕ → Bool) where
   finds i zero = λ m low high. absurd (omega arith)
   finds i (suc k) = go (p i) refl (finds (suc i) k)
     where
-      go : (b : Bool) → p i ≡ b → Finds (suc i) k (first_from p (suc i) k) → Finds i (suc k) (if b then some i else first_from p (suc i) k)
+      go : (b : Bool) → p i ≡ b → Finds (suc i) k (first_from p (suc i) k) → Finds i (suc k) (if b then Some i else first_from p (suc i) k)
       go true e f = record { holds = e; low = omega arith; high = omega arith; none_before = λ m l h. absurd (omega arith) }
       go false e f = finds-next i k (first_from p (suc i) k) e f
 
@@ -82,9 +81,9 @@ few-role reserved t = is_one _ refl
 few-role other t = is_one _ refl
 
 few-by : (o : Option Bool) (on : Bool) (t : Token) → Few (kept_by o on t)
-few-by (some off) on t = is_none refl
-few-by none true t = few-role (role_of t.kind) t
-few-by none false t = is_one _ refl
+few-by (Some off) on t = is_none refl
+few-by None true t = few-role (role_of t.kind) t
+few-by None false t = is_one _ refl
 
 few-here : (on drop : Bool) (t : Token) → Few (kept_here on drop t)
 few-here on true t = is_none refl
@@ -223,7 +222,7 @@ module _ (s : List ℕ) (c : Counts) (text : List ℕ) where
   Says (Verdict.Refused n p) = (n ≡ 0 → ⊥) × Given n
 
   -- all is there: nothing more, or more
-  all_there : checked s ≡ found.Sound c → Begins due_all (strip text) → (b : Bool) → same due_all (strip text) ≡ b → Says (if b then Verdict.Yes else Verdict.No (length ts))
+  all_there : checked s ≡ Ok c → Begins due_all (strip text) → (b : Bool) → same due_all (strip text) ≡ b → Says (if b then Verdict.Yes else Verdict.No (length ts))
   unfolding Says due_of due_in
   all_there h k true q = sym (same_true _ _ q)
   all_there h k false q = go k.rest k.whole
@@ -232,32 +231,32 @@ module _ (s : List ℕ) (c : Counts) (text : List ℕ) where
       go [] w = absurd (false≢true (sym q ∙ rw w (same-on due_all [])))
       go (y ∷ rest) w = (exceeding (record { past = length-tokens; byte = y; rest = rest; more = rw h w }), λ z. not_more due_all rest y (sym z ∙ w))
 
-  says-compared : checked s ≡ found.Sound c → (o : Option ℕ) → Finds lacks_to 0 (length ts) o → Says (unless_no (params_of s c) (keeps_of s c) (options_of s).casing ts text o)
+  says-compared : checked s ≡ Ok c → (o : Option ℕ) → Finds lacks_to 0 (length ts) o → Says (unless_no (params_of s c) (keeps_of s c) (options_of s).casing ts text o)
   unfolding Says Finds unless_no
-  says-compared h none f = all_there h (rw (take-length ts) at (has-before (length ts) (λ m l k. f m l (omega arith)))) (same due_all (strip text)) refl
-  says-compared h (some i) f =
+  says-compared h None f = all_there h (rw (take-length ts) at (has-before (length ts) (λ m l k. f m l (omega arith)))) (same due_all (strip text)) refl
+  says-compared h (Some i) f =
       let l = lacks-here i f in
       (lacking l, λ z. l.lacks (rw z (due-first (suc i))))
 
   says-unless : (n : ℕ) (o : Option ℕ) (v : Verdict) → (n ≡ 0 → ⊥) → Given n → Says v → Says (unless_at n o v)
   unfolding Says unless_at
-  says-unless n none v z g k = k
-  says-unless n (some p) v z g k = (z, g)
+  says-unless n None v z g k = k
+  says-unless n (Some p) v z g k = (z, g)
 
-  says-tokens : checked s ≡ found.Sound c → Says (judge_tokens (params_of s c) (keeps_of s c) (options_of s).casing ts text)
+  says-tokens : checked s ≡ Ok c → Says (judge_tokens (params_of s c) (keeps_of s c) (options_of s).casing ts text)
   unfolding judge_tokens compared
   says-tokens h = says-unless _ _ _ (λ z. omega arith) refl (says-unless _ _ _ (λ z. omega arith) refl (says-compared h _ (finds lacks_to 0 (length ts))))
 
   -- in numbers
-  due-is : checked s ≡ found.Sound c → due_of s ≡ due_all
+  due-is : checked s ≡ Ok c → due_of s ≡ due_all
   unfolding due_of due_in
   due-is h = rw h
 
-  judges_so : checked s ≡ found.Sound c → (v : Verdict) → Says v → Judges s text (judged_of v)
+  judges_so : checked s ≡ Ok c → (v : Verdict) → Says v → Judges s text (judged_of v)
   unfolding Says judged_of
   judges_so h Verdict.Yes k =
       record {
-        sound = λ z. h ∙ ap (λ (x : Counts). found.Sound x) (sound-sheeted s c h).counted;
+        sound = λ z. h ∙ ap (λ (x : Counts). Ok x) (sound-sheeted s c h).counted;
         yes_due = λ z m. k ∙ sym (due-is h);
         due_yes = λ z d. refl;
         no_at = λ z n. absurd (n refl);
@@ -266,7 +265,7 @@ module _ (s : List ℕ) (c : Counts) (text : List ℕ) where
       }
   judges_so h (Verdict.No i) k =
       record {
-        sound = λ z. h ∙ ap (λ (x : Counts). found.Sound x) (sound-sheeted s c h).counted;
+        sound = λ z. h ∙ ap (λ (x : Counts). Ok x) (sound-sheeted s c h).counted;
         yes_due = λ z m. absurd (omega arith);
         due_yes = λ z d. absurd (k.1 (d ∙ due-is h));
         no_at = λ z n. subst (λ (x : Counts). NoAt s x text i) (sound-sheeted s c h).counted k.0;
@@ -277,13 +276,13 @@ module _ (s : List ℕ) (c : Counts) (text : List ℕ) where
 
 -- ---- the call
 
-judges_as : (s text : List ℕ) (f : Checked) → checked s ≡ f → Judges s text (judged_of (judge_as s text f))
+judges_as : (s text : List ℕ) (f : Result Counts Offence) → checked s ≡ f → Judges s text (judged_of (judge_as s text f))
 unfolding judge_as
-judges_as s text (found.Sound c) h = judges_so s c text h _ (says-tokens s c text h)
-judges_as s text found.Size h = judges_refused s text 1 0 (λ z. omega arith) refl
-judges_as s text (found.Word p) h = judges_refused s text 2 p (λ z. omega arith) refl
-judges_as s text (found.Place p) h = judges_refused s text 3 p (λ z. omega arith) refl
-judges_as s text (found.Byte p) h = judges_refused s text 4 p (λ z. omega arith) refl
+judges_as s text (Ok c) h = judges_so s c text h _ (says-tokens s c text h)
+judges_as s text (Err offence.Size) h = judges_refused s text 1 0 (λ z. omega arith) refl
+judges_as s text (Err (offence.Word p)) h = judges_refused s text 2 p (λ z. omega arith) refl
+judges_as s text (Err (offence.Place p)) h = judges_refused s text 3 p (λ z. omega arith) refl
+judges_as s text (Err (offence.Byte p)) h = judges_refused s text 4 p (λ z. omega arith) refl
 
 -- any numbers that the call's equation allows
 pub call_judges : (s text : List ℕ) (r : Judged) → r ≡ judged_of (judge s text) → Judges s text r
@@ -292,7 +291,7 @@ call_judges s text r e = rw e (judges_as s text (checked s) refl)
 
 -- ---- a text that is what is due is a yes
 
-pub due-compared : (s : List ℕ) (c : Counts) (text : List ℕ) → checked s ≡ found.Sound c → strip text ≡ due_all s c text
+pub due-compared : (s : List ℕ) (c : Counts) (text : List ℕ) → checked s ≡ Ok c → strip text ≡ due_all s c text
     → compared (params_of s c) (keeps_of s c) (options_of s).casing (tokens_of s c) text ≡ Verdict.Yes
 unfolding compared unless_no Says
 due-compared s c text h d = go (first_from (lacks_to s c text) 0 (length (tokens_of s c))) (says-compared s c text h _ (finds (lacks_to s c text) 0 (length (tokens_of s c))))
@@ -302,16 +301,16 @@ due-compared s c text h d = go (first_from (lacks_to s c text) 0 (length (tokens
     by-same false k = absurd (k.1 d)
 
     go : (o : Option ℕ) → Says s c text (unless_no (params_of s c) (keeps_of s c) (options_of s).casing (tokens_of s c) text o) → unless_no (params_of s c) (keeps_of s c) (options_of s).casing (tokens_of s c) text o ≡ Verdict.Yes
-    go none k = by-same (same (due_all s c text) (strip text)) k
-    go (some i) k = absurd (k.1 d)
+    go None k = by-same (same (due_all s c text) (strip text)) k
+    go (Some i) k = absurd (k.1 d)
 
 -- ---- only white bytes differ
 
 module _ (ps : QueryParams) (keep : List (List ℕ)) (k : Case) (us : List Token) (v w : List ℕ) (same_bytes : strip v ≡ strip w) where
   unless_same : (o : Option ℕ) → unless_no ps keep k us v o ≡ unless_no ps keep k us w o
   unfolding unless_no
-  unless_same none = rw same_bytes
-  unless_same (some i) = refl
+  unless_same None = rw same_bytes
+  unless_same (Some i) = refl
 
   compared_same : compared ps keep k us v ≡ compared ps keep k us w
   unfolding compared has_first
@@ -322,9 +321,9 @@ pub white-moves : (s v w : List ℕ) → strip v ≡ strip w → find (leb 128) 
 unfolding judge judge_as judge_tokens
 white-moves s v w h f = go (checked s)
   where
-    go : (d : Checked) → judge_as s v d ≡ judge_as s w d
-    go (found.Sound c) = rw (f, compared_same (params_of s c) (keeps_of s c) (options_of s).casing (tokens_of s c) v w h)
-    go found.Size = refl
-    go (found.Word p) = refl
-    go (found.Place p) = refl
-    go (found.Byte p) = refl
+    go : (d : Result Counts Offence) → judge_as s v d ≡ judge_as s w d
+    go (Ok c) = rw (f, compared_same (params_of s c) (keeps_of s c) (options_of s).casing (tokens_of s c) v w h)
+    go (Err offence.Size) = refl
+    go (Err (offence.Word p)) = refl
+    go (Err (offence.Place p)) = refl
+    go (Err (offence.Byte p)) = refl

@@ -1,7 +1,7 @@
 -- What is due of a checked sheet has no byte of 128 or more. Assumes nothing.
 use mathlib.Core.Path.{◌≡◌, refl}
 use mathlib.Core.Bool.{Bool, true, false, ◌&&◌, ◌||◌, false≢true}
-use mathlib.Core.Option.{Option, none, some}
+use Rattle.std.specs.Prelude.{Option, None, Some, if◌then◌else◌, unwrap_or}
 use mathlib.Core.List.{List, [], ◌∷◌, ◌++◌}
 use Prim.Native.Nat.{ℕ, zero, suc, ◌+◌, ◌-◌, ◌≤◌, ◌<◌}
 use native.Mathlib.Omega.{arith}
@@ -12,12 +12,11 @@ use Rattle.rules.specs.declared.Case.{Case}
 use Rattle.rules.specs.declared.Case.TheVariants as case
 use Rattle.rules.specs.declared.Counts.{Counts}
 use Rattle.rules.specs.declared.Place.{Place}
-use Rattle.rules.specs.Base.{same, any_of, find, nth?, or_else}
-use Rattle.std.specs.Prelude.{if◌then◌else◌}
+use Rattle.rules.specs.Base.{same, any_of, find, nth?}
 use Rattle.rules.specs.Tokens.{Key, absent, named, zero_indexed, one_indexed, Token}
 use Rattle.rules.specs.Text.{byte_in_case, in_case}
 use Rattle.rules.specs.Words.{word_at, body_at, token_at}
-use Rattle.rules.specs.Sheet.{body_part, list_of, Param, QueryParams, None, Indexed, Named, token_of, value_of, param_of, params_of, Env, env_of, tokens_of}
+use Rattle.rules.specs.Sheet.{body_part, list_of, Param, QueryParams, NoParams, Indexed, Named, token_of, value_of, param_of, params_of, Env, env_of, tokens_of}
 use Rattle.rules.specs.Formatter.{case_for, format_reserved_word}
 use Rattle.rules.specs.Due.{white, strip, Piece, own, cased, filled, Role, blank, comment, placeholder, reserved, other, role_of, kept_on, switches, kept_by, kept_tokens, in_asked_case, one_based, called_by, entry_of, count_next, shows, due_from, due}
 use Rattle.rules.proofs.Own.{word-is}
@@ -34,7 +33,7 @@ abbrev pub Low : List ℕ → Type 0
 Low [] = Unit {0}
 Low (x ∷ v) = (x < 128) × Low v
 
-pub low-find : (n : ℕ) (v : List ℕ) → Low v → find (leb 128) n v ≡ none
+pub low-find : (n : ℕ) (v : List ℕ) → Low v → find (leb 128) n v ≡ None
 low-find n [] h = refl
 low-find n (x ∷ v) h = rw (lt-leb 128 x h.0) (low-find (suc n) v h.1)
 
@@ -102,30 +101,30 @@ LowParams [] = Unit {0}
 LowParams (p ∷ ps) = Low p.value × LowParams ps
 
 abbrev LowList : QueryParams → Type 0
-LowList None = Unit {0}
+LowList NoParams = Unit {0}
 LowList (Indexed vs) = LowValues vs
 LowList (Named ps) = LowParams ps
 
 module _ (v : List ℕ) (l : Low v) where
-  low-nth : (vs : List (List ℕ)) (n : ℕ) → LowValues vs → Low (or_else v (nth? vs n))
+  low-nth : (vs : List (List ℕ)) (n : ℕ) → LowValues vs → Low (unwrap_or (nth? vs n) v)
   low-nth [] n h = l
   low-nth (w ∷ vs) zero h = h.0
   low-nth (w ∷ vs) (suc n) h = low-nth vs n h.1
 
-  low-one : (vs : List (List ℕ)) (n : ℕ) → LowValues vs → Low (or_else v (one_based vs n))
+  low-one : (vs : List (List ℕ)) (n : ℕ) → LowValues vs → Low (unwrap_or (one_based vs n) v)
   low-one vs zero h = l
   low-one vs (suc n) h = low-nth vs n h
 
-  low-called : (n : List ℕ) (ps : List Param) → LowParams ps → Low (or_else v (called_by n ps))
+  low-called : (n : List ℕ) (ps : List Param) → LowParams ps → Low (unwrap_or (called_by n ps) v)
   low-called n [] h = l
   low-called n (p ∷ ps) h = go (same p.name n) (low-called n ps h.1)
     where
-      go : (b : Bool) → Low (or_else v (called_by n ps)) → Low (or_else v (if b then some p.value else called_by n ps))
+      go : (b : Bool) → Low (unwrap_or (called_by n ps) v) → Low (unwrap_or (if b then Some p.value else called_by n ps) v)
       go true k = h.0
       go false k = k
 
-  low-entry : (ps : QueryParams) (key : Key) (i : ℕ) → LowList ps → Low (or_else v (entry_of ps key i))
-  low-entry None key i h = l
+  low-entry : (ps : QueryParams) (key : Key) (i : ℕ) → LowList ps → Low (unwrap_or (entry_of ps key i) v)
+  low-entry NoParams key i h = l
   low-entry (Indexed vs) absent i h = low-nth vs i h
   low-entry (Indexed vs) (named []) i h = low-nth vs i h
   low-entry (Indexed vs) (named (c ∷ n)) i h = l
@@ -157,9 +156,9 @@ module _ (t : Token) (xs : List Piece) (l : Low t.value) (r : LowPieces xs) wher
   low-role other = (l, r)
 
   low_by : (o : Option Bool) (on : Bool) → LowPieces (kept_by o on t ++ xs)
-  low_by (some off) on = r
-  low_by none true = low-role (role_of t.kind)
-  low_by none false = (l, r)
+  low_by (Some off) on = r
+  low_by None true = low-role (role_of t.kind)
+  low_by None false = (l, r)
 
   low-here : (on drop : Bool) → LowPieces (kept_here on drop t ++ xs)
   low-here on true = r
@@ -178,7 +177,7 @@ module _ (e : Env) (ps : LowList e.params) where
   low-due before [] h = tt
   low-due before (own v ∷ xs) h = low-append (strip v) _ (low-strip v h.0) (low-due (own v ∷ before) xs h.1)
   low-due before (cased v ∷ xs) h = low-append (strip (shows e.params e.keep e.options.casing before (cased v))) _ (low-strip (in_asked_case e.keep e.options.casing v) (rw (← word-is e v) (low-case (case_for e v) v h.0))) (low-due (cased v ∷ before) xs h.1)
-  low-due before (filled k v ∷ xs) h = low-append (strip (shows e.params e.keep e.options.casing before (filled k v))) _ (low-strip (or_else v (entry_of e.params k (count_next before))) (low-entry v h.0 e.params k (count_next before) ps)) (low-due (filled k v ∷ before) xs h.1)
+  low-due before (filled k v ∷ xs) h = low-append (strip (shows e.params e.keep e.options.casing before (filled k v))) _ (low-strip (unwrap_or (entry_of e.params k (count_next before)) v) (low-entry v h.0 e.params k (count_next before) ps)) (low-due (filled k v ∷ before) xs h.1)
 
 -- ---- a checked sheet
 
@@ -219,7 +218,7 @@ module _ (s : List ℕ) (c : Counts) (h : Sheeted s c) where
   unfolding params_of
   low-list = go (eqb (word_at s 16) 0) (eqb (word_at s 16) 1)
     where
-      go : (z o : Bool) → LowList (if z then None else if o then Indexed (list_of (value_of s c) 0 c.params) else Named (list_of (param_of s c) 0 c.params))
+      go : (z o : Bool) → LowList (if z then NoParams else if o then Indexed (list_of (value_of s c) 0 c.params) else Named (list_of (param_of s c) 0 c.params))
       go true o = tt
       go false true = low_values 0 c.params (omega arith)
       go false false = low-params 0 c.params (omega arith)

@@ -4,7 +4,7 @@ use Prim.Native.String.{String}
 use Rattle.rules.specs.declared.TokenKind.TheVariants as kind
 use Rattle.rules.specs.Bytes.{bytes}
 use Rattle.rules.specs.Tokens.{Key, named, zero_indexed, one_indexed, Token}
-use Rattle.rules.specs.Sheet.{QueryParams, None, Indexed}
+use Rattle.rules.specs.Sheet.{QueryParams, NoParams, Indexed}
 use Rattle.rules.specs.Encode.{encode}
 use Rattle.rules.specs.Computed.{computed}
 use Rattle.rules.specs.Sheets.{tok, W, S, T, P, unset, options, default, lines34, line, sheet6}
@@ -42,11 +42,11 @@ list = T "select" ∷ S " " ∷ W "id" ∷ tok kind.Operator "," ∷ W "b" ∷ [
 
 abbrev pub wished : List Judging
 wished =
-    sheet upper None [] list "SEL ECT id , b" Verdict.Yes
-    ∷ sheet upper None [] list "select id, b" (no 0)
-    ∷ sheet upper None [] list "SELECT ID, b" (no 2)
-    ∷ sheet upper None [] list "SELECT id," (no 4)
-    ∷ sheet upper None [] list "SELECT id, b;" (no 5)
+    sheet upper NoParams [] list "SEL ECT id , b" Verdict.Yes
+    ∷ sheet upper NoParams [] list "select id, b" (no 0)
+    ∷ sheet upper NoParams [] list "SELECT ID, b" (no 2)
+    ∷ sheet upper NoParams [] list "SELECT id," (no 4)
+    ∷ sheet upper NoParams [] list "SELECT id, b;" (no 5)
     ∷ sheet default numbers [] (W "a" ∷ keyed (one_indexed (record { 0 = 0 })) ∷ []) "x" (refused 5 1)
     ∷ record { sheet = encode default numbers [] (W "a" ∷ keyed (one_indexed (record { 0 = 0 })) ∷ []); text = 200 ∷ []; wanted = refused 5 1 }
     ∷ []
@@ -57,27 +57,27 @@ off = tok kind.LineComment "-- fmt: off"
 
 abbrev pub kept : List Judging
 kept =
-    sheet default None [] [] "" Verdict.Yes
-    ∷ sheet default None [] [] " \n\t" Verdict.Yes
-    ∷ sheet default None [] [] " a" (no 0)
-    ∷ sheet default None [] (W "a" ∷ W "  " ∷ W "" ∷ []) "a" Verdict.Yes
-    ∷ sheet default None [] (W "a" ∷ W "  " ∷ W "" ∷ W "b" ∷ []) "a" (no 3)
-    ∷ sheet default None [] (S "ab" ∷ W "c" ∷ []) "c" Verdict.Yes
-    ∷ sheet default None [] (off ∷ W "x" ∷ S "ab" ∷ W "c" ∷ []) "abc" Verdict.Yes
-    ∷ sheet default None [] (off ∷ W "x" ∷ S "ab" ∷ W "c" ∷ []) "xabc" (no 2)
-    ∷ sheet default None [] (off ∷ W "x" ∷ S "ab" ∷ W "c" ∷ []) "c" (no 2)
-    ∷ sheet upper None [] (off ∷ W "x" ∷ T "select" ∷ []) "select" Verdict.Yes
-    ∷ sheet upper None [] (off ∷ W "x" ∷ T "select" ∷ []) "SELECT" (no 2)
+    sheet default NoParams [] [] "" Verdict.Yes
+    ∷ sheet default NoParams [] [] " \n\t" Verdict.Yes
+    ∷ sheet default NoParams [] [] " a" (no 0)
+    ∷ sheet default NoParams [] (W "a" ∷ W "  " ∷ W "" ∷ []) "a" Verdict.Yes
+    ∷ sheet default NoParams [] (W "a" ∷ W "  " ∷ W "" ∷ W "b" ∷ []) "a" (no 3)
+    ∷ sheet default NoParams [] (S "ab" ∷ W "c" ∷ []) "c" Verdict.Yes
+    ∷ sheet default NoParams [] (off ∷ W "x" ∷ S "ab" ∷ W "c" ∷ []) "abc" Verdict.Yes
+    ∷ sheet default NoParams [] (off ∷ W "x" ∷ S "ab" ∷ W "c" ∷ []) "xabc" (no 2)
+    ∷ sheet default NoParams [] (off ∷ W "x" ∷ S "ab" ∷ W "c" ∷ []) "c" (no 2)
+    ∷ sheet upper NoParams [] (off ∷ W "x" ∷ T "select" ∷ []) "select" Verdict.Yes
+    ∷ sheet upper NoParams [] (off ∷ W "x" ∷ T "select" ∷ []) "SELECT" (no 2)
     ∷ []
 
 -- ---- letter case and keep words
 abbrev pub letters : List Judging
 letters =
-    sheet upper None (bytes "id" ∷ []) (T "id" ∷ tok kind.Reserved "is  null" ∷ []) "id IS NULL" Verdict.Yes
-    ∷ sheet upper None (bytes "id" ∷ []) (T "id" ∷ tok kind.Reserved "is  null" ∷ []) "ID IS NULL" (no 0)
-    ∷ sheet upper None (bytes "is null" ∷ []) (T "id" ∷ tok kind.Reserved "is  null" ∷ []) "ID is null" (no 1)
-    ∷ sheet (options 2 50 unset) None [] (T "SELECT" ∷ tok kind.Join "JOIN" ∷ []) "selectJOIN" Verdict.Yes
-    ∷ sheet (options 2 50 unset) None [] (T "SELECT" ∷ tok kind.Join "JOIN" ∷ []) "select join" (no 1)
+    sheet upper NoParams (bytes "id" ∷ []) (T "id" ∷ tok kind.Reserved "is  null" ∷ []) "id IS NULL" Verdict.Yes
+    ∷ sheet upper NoParams (bytes "id" ∷ []) (T "id" ∷ tok kind.Reserved "is  null" ∷ []) "ID IS NULL" (no 0)
+    ∷ sheet upper NoParams (bytes "is null" ∷ []) (T "id" ∷ tok kind.Reserved "is  null" ∷ []) "ID is null" (no 1)
+    ∷ sheet (options 2 50 unset) NoParams [] (T "SELECT" ∷ tok kind.Join "JOIN" ∷ []) "selectJOIN" Verdict.Yes
+    ∷ sheet (options 2 50 unset) NoParams [] (T "SELECT" ∷ tok kind.Join "JOIN" ∷ []) "select join" (no 1)
     ∷ []
 
 -- ---- placeholders; the counter stands still for a switched-off one
@@ -98,16 +98,16 @@ zeroth = keyed (one_indexed (record { 0 = 0 }))
 
 abbrev pub refusals : List Judging
 refusals =
-    sheet default None [] (zeroth ∷ []) "?" Verdict.Yes
+    sheet default NoParams [] (zeroth ∷ []) "?" Verdict.Yes
     ∷ sheet default lines34 [] (zeroth ∷ []) "?" Verdict.Yes
     ∷ sheet default numbers [] (off ∷ zeroth ∷ zeroth ∷ []) "?" Verdict.Yes
     ∷ sheet default numbers [] (off ∷ zeroth ∷ zeroth ∷ tok kind.LineComment "-- fmt: on" ∷ zeroth ∷ W "a" ∷ zeroth ∷ []) "?" (refused 5 6)
     ∷ record { sheet = encode default numbers [] (record { kind = kind.Word; value = bytes "?"; key = one_indexed (record { 0 = 0 }); create = false } ∷ []); text = 63 ∷ 127 ∷ 128 ∷ 200 ∷ []; wanted = refused 15 2 }
-    ∷ record { sheet = encode default None [] (W "a" ∷ []); text = 98 ∷ 255 ∷ []; wanted = refused 15 1 }
-    ∷ record { sheet = encode default None [] (W "a" ∷ []) ++ 0 ∷ []; text = 255 ∷ []; wanted = refused 1 0 }
-    ∷ sheet (2 ∷ 3 ∷ 0 ∷ 1 ∷ 50 ∷ unset ∷ unset ∷ []) None [] (W "a" ∷ []) "a" (refused 2 24)
-    ∷ sheet (2 ∷ 0 ∷ 1 ∷ 1 ∷ 50 ∷ unset ∷ unset ∷ []) None [] (W "a" ∷ []) "a" Verdict.Yes
-    ∷ record { sheet = encode default None [] (record { kind = kind.Word; value = 128 ∷ []; key = named []; create = false } ∷ []); text = 128 ∷ []; wanted = refused 4 68 }
+    ∷ record { sheet = encode default NoParams [] (W "a" ∷ []); text = 98 ∷ 255 ∷ []; wanted = refused 15 1 }
+    ∷ record { sheet = encode default NoParams [] (W "a" ∷ []) ++ 0 ∷ []; text = 255 ∷ []; wanted = refused 1 0 }
+    ∷ sheet (2 ∷ 3 ∷ 0 ∷ 1 ∷ 50 ∷ unset ∷ unset ∷ []) NoParams [] (W "a" ∷ []) "a" (refused 2 24)
+    ∷ sheet (2 ∷ 0 ∷ 1 ∷ 1 ∷ 50 ∷ unset ∷ unset ∷ []) NoParams [] (W "a" ∷ []) "a" Verdict.Yes
+    ∷ record { sheet = encode default NoParams [] (record { kind = kind.Word; value = 128 ∷ []; key = named []; create = false } ∷ []); text = 128 ∷ []; wanted = refused 4 68 }
     ∷ []
 
 abbrev pub judgings : List Judging

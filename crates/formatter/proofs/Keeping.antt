@@ -1,7 +1,7 @@
 -- The rows of the run: those in the list are those of the tokens before, and with what is left they are all. Assumes nothing.
 use mathlib.Core.Path.{◌≡◌, refl, sym, ap, ◌∙◌}
 use mathlib.Core.Bool.{Bool, true, false, ◌&&◌}
-use mathlib.Core.Option.{Option, some}
+use Rattle.std.specs.Prelude.{Option, Some, if◌then◌else◌}
 use mathlib.Core.List.{List, [], ◌∷◌, ◌++◌, map}
 use Prim.Native.Nat.{ℕ, suc, ◌+◌, ◌-◌, ◌*◌, ◌≤◌, ◌<◌, min}
 use native.Mathlib.Omega.{arith}
@@ -14,7 +14,6 @@ use Rattle.rules.specs.declared.TokenKind.TheVariants as kind
 use Rattle.rules.specs.declared.Turn.{Turn}
 use Rattle.rules.specs.declared.Turn.TheVariants as turn
 use Rattle.rules.specs.Base.{◌▹◌, when}
-use Rattle.std.specs.Prelude.{if◌then◌else◌}
 use Rattle.rules.specs.Text.{Text, fits, trimmed, refused, append, refuse, mark, low_of, bytes_in}
 use Rattle.rules.specs.Tokens.{Token, Here, is}
 use Rattle.rules.specs.Sheet.{Env, token_of, tokens_of, here_at}
@@ -145,7 +144,7 @@ step-level t e h s q =
     let p = laid-placeholder t h.token.kind q in
     rw p.0 (rw p.1 (level-placeholder e h.token (on_text mark s)))
 
-by-fields : (n w m l : ℕ) (r : Row) → n ≡ r.token → w ≡ entry_word r.entry → ((k : ℕ) → r.entry ≡ some k → k < 4294967295) → m ≡ r.start → l ≡ r.len → row_of n w m l ≡ r
+by-fields : (n w m l : ℕ) (r : Row) → n ≡ r.token → w ≡ entry_word r.entry → ((k : ℕ) → r.entry ≡ Some k → k < 4294967295) → m ≡ r.start → l ≡ r.len → row_of n w m l ≡ r
 unfolding row_of
 by-fields n w m l r a b f c d = rw (a, b, entry-back r.entry f, c, d)
 
@@ -185,7 +184,7 @@ cleared-here d k e = e ∙ rw (cleared-length d k e)
 pub record Keeping (s : List ℕ) (x : Context) (cap : ℕ) (b : Bool) (i : ℕ) (st : Code) (w : CodeSwitch) (q : List ℕ) (k : ℕ) (d : List ℕ) (count : ℕ) : Type 0 where
   pub long : length d ≡ k
   pub listed : Listed d count
-  pub none : b ≡ false → count ≡ 0
+  pub None : b ≡ false → count ≡ 0
   pub room : b ≡ true → 5 * count_from s x.base x.counts.tokens count i (switch_of w) ≤ k
   pub left : b ≡ true → rows_from_at (env_in s x cap) s x.base x.counts.tokens i (switch_of w) (state_of s x.base st q) (rows_in count d) ≡ rows (env_in s x cap) (tokens_of s x.counts)
 
@@ -197,7 +196,7 @@ keep-starts s x cap b st w q k d known begun e h z =
     record {
       long = l;
       listed = record { listed = record { words = z ∙ rw (l, sub-zero) }; order = tt };
-      none = λ f. refl;
+      None = λ f. refl;
       room = λ t. rw (e, known.base, count-all s x.counts) (h t);
       left = λ t. rw (begun.state s x.base, e, known.base) (sym (rows_all (env_in s x cap) s x.counts));
     }
@@ -295,7 +294,7 @@ module _ (s : List ℕ) (x : Context) (cap : ℕ) (b : Bool) (i : ℕ) (st : Cod
                 listed = rw em (words-after l l' count r.text.low c i entry r.text.low len same el);
                 order = rw taken-rows (order-after c r.text.low (row_of i entry r.text.low len) (rows_in count l) (λ t. refl) keep.listed.order);
               };
-              none = λ f. em ∙ rw (ec, f) (keep.none f);
+              None = λ f. em ∙ rw (ec, f) (keep.none f);
               room = λ t. rw turn.switch (rw (count_turn s x.base x.counts.tokens count i (switch_of w) here, counts t) at (keep.room t));
               left = λ t.
                   rw (turn.switch, stepped-is s x i st w d r u q cap run.room run.steady.held turn, rules-rows t)

@@ -5,7 +5,7 @@ use mathlib.Core.Logic.{⊎_elim}
 use mathlib.Core.List.{List, [], ◌∷◌, map, tail}
 use Prim.Native.Nat.{ℕ, zero, suc, ◌+◌, ◌-◌, ◌≤◌, ◌<◌}
 use native.Mathlib.Omega.{arith}
-use mathlib.Core.Option.{Option, none, some}
+use Rattle.std.specs.Prelude.{Option, None, Some, if◌then◌else◌}
 use native.Mathlib.Nat.{sub-zero}
 use native.Mathlib.Numerals.{add-one}
 use lib.Dec.{eqb, leb, ltb}
@@ -16,7 +16,6 @@ use Rattle.rules.specs.declared.IndentType.{IndentType}
 use Rattle.rules.specs.declared.IndentType.TheVariants.{Top, Block, FoldedBlock}
 use Rattle.rules.specs.declared.SpanInfo.{SpanInfo}
 use Rattle.rules.specs.Base.{when, full}
-use Rattle.std.specs.Prelude.{if◌then◌else◌}
 use Rattle.rules.specs.Indentation.{Indentation, PreviousTokens, no_indentation, is_single, asked, mark_reserved, mark_top_level, increase_top_level, increase_block_level, decrease_top_level, pop_top, decrease_block_level, pop_block, set_previous_reserved, set_previous_top_level, last_top_level, last_reserved, previous_reserved, previous_top_level_reserved, unfolded, indent_level, span, no_previous as none_before}
 use Rattle.stacks.specs.Stack.{stack, Kept, within_of}
 use Rattle.stacks.proofs.StackLaws.{length-stack, stack_push, stack-put, stack-pop, stack-popped, kept_push, kept_put, kept-pop, every_set, kept-none, every-same, same_or, left-of, right_of, unless_both, tail_map}
@@ -63,7 +62,7 @@ unfolding top_in
 by_kind zero k z = absurd (z refl)
 by_kind (suc n) k z = refl
 
-pub by_token : (w : ℕ) → (w ≡ 0 → ⊥) → some (w - 1) ≡ word_of w
+pub by_token : (w : ℕ) → (w ≡ 0 → ⊥) → Some (w - 1) ≡ word_of w
 unfolding word_of
 by_token zero z = absurd (z refl)
 by_token (suc n) z = let e : suc n - 1 ≡ n = omega arith in rw e
@@ -76,11 +75,11 @@ pub by-few-blocks : (sp : SpanInfo) → sp.blocks ≤ 2 → eqb sp.arguments 1 �
 unfolding is_single
 by-few-blocks sp h = rw (le-leb _ _ h)
 
-pub by-untold : (m : ℕ) (sp : SpanInfo) → m ≡ 0 → none ≡ top_of m sp
+pub by-untold : (m : ℕ) (sp : SpanInfo) → m ≡ 0 → None ≡ top_of m sp
 unfolding top_of
 by-untold m sp z = rw z
 
-pub by-told : (m : ℕ) (sp : SpanInfo) → (m ≡ 0 → ⊥) → some sp ≡ top_of m sp
+pub by-told : (m : ℕ) (sp : SpanInfo) → (m ≡ 0 → ⊥) → Some sp ≡ top_of m sp
 unfolding top_of
 by-told zero sp z = absurd (z refl)
 by-told (suc m) sp z = refl
@@ -163,13 +162,13 @@ top-skips d h = go d.indent_types h
 -- ---- previous words
 
 -- what is asked of the span that was put there
-span-back : (w : ℕ) (sp : SpanInfo) → top_of (top_level_after w sp).marks (top_span (top_level_after w sp)) ≡ some (asked sp)
+span-back : (w : ℕ) (sp : SpanInfo) → top_of (top_level_after w sp).marks (top_span (top_level_after w sp)) ≡ Some (asked sp)
 unfolding marks_of top_of asked
 span-back w sp = go (is_single sp) sp.newline_after
   where
     go : (b d : Bool)
         → top_of (marks_of b d) (top_span (entry sp.full_span w (marks_of b d)))
-        ≡ some (record { full_span = sp.full_span; blocks = 0; newline_before = false; newline_after = d; arguments = (if b then 1 else 0) })
+        ≡ Some (record { full_span = sp.full_span; blocks = 0; newline_before = false; newline_after = d; arguments = (if b then 1 else 0) })
     go false false = refl
     go true false = refl
     go false true = refl
@@ -196,14 +195,14 @@ unfolding entry_for
 told-reserved p t h = ap (λ (q : Previous). reserved_after q t) h ∙ go (top_of p.marks (top_span p))
   where
     go : (v : Option SpanInfo) → reserved_after (entry_for v p.word) t ≡ entry_for v (t + 1)
-    go none = refl
-    go (some sp) = refl
+    go None = refl
+    go (Some sp) = refl
 
-after-reserved : (p : Previous) (t : ℕ) → previous_of (reserved_after p t) ≡ record { top_level_reserved = (previous_of p).top_level_reserved; reserved = some t }
+after-reserved : (p : Previous) (t : ℕ) → previous_of (reserved_after p t) ≡ record { top_level_reserved = (previous_of p).top_level_reserved; reserved = Some t }
 unfolding previous_of word_of
 after-reserved p t = rw add-one
 
-after-top-level : (w : ℕ) (sp : SpanInfo) → previous_of (top_level_after w sp) ≡ record { top_level_reserved = some (asked sp); reserved = word_of w }
+after-top-level : (w : ℕ) (sp : SpanInfo) → previous_of (top_level_after w sp) ≡ record { top_level_reserved = Some (asked sp); reserved = word_of w }
 unfolding previous_of
 after-top-level w sp = rw (span-back w sp)
 
@@ -483,7 +482,7 @@ module _ (i : Code) (c : Clean i) where
         left = record { kinds = set i.kinds k 0; nkinds = k; spans = i.spans; nspans = i.nspans; previous = set i.previous q u; nprevious = q; level = l };
       })
   by-closes true k q l u eg h ek eq eu el =
-      let some : 0 < i.nkinds = ltb-true 0 i.nkinds (sym eg) in
+      let Some : 0 < i.nkinds = ltb-true 0 i.nkinds (sym eg) in
       rw (el, ek, eq, eu) (block_popped (λ z. omega arith) h)
   by-closes false k q l u eg h ek eq eu el =
       let few : i.nkinds ≤ 0 = ltb-false 0 i.nkinds (sym eg) in

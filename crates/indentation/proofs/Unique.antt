@@ -1,7 +1,7 @@
 -- Two results that stand for the same stacks are one. Assumes nothing.
 use mathlib.Core.Path.{◌≡◌, refl, sym, ap, ◌∙◌}
 use mathlib.Core.Bool.{Bool}
-use mathlib.Core.Option.{Option, none, some}
+use Rattle.std.specs.Prelude.{Option, None, Some}
 use mathlib.Core.List.{List, [], ◌∷◌, map}
 use Prim.Native.Nat.{ℕ, zero, suc, ◌≤◌}
 use native.Mathlib.Omega.{arith}
@@ -90,8 +90,8 @@ closed-one w r q s t =
 
 -- back from what is told
 word-by : Option ℕ → Word
-word-by none = word.Nothing
-word-by (some n) = word.Token n
+word-by None = word.Nothing
+word-by (Some n) = word.Token n
 
 word_back : (r : Word) → word-by (word_in r) ≡ r
 unfolding word-by word_in
@@ -102,8 +102,8 @@ pub word-one : (r q : Word) → word_in r ≡ word_in q → r ≡ q
 word-one r q e = sym (word_back r) ∙ ap word-by e ∙ word_back q
 
 top-by : Option SpanInfo → TopLevel
-top-by none = top.Nothing
-top-by (some sp) = top.Span sp
+top-by None = top.Nothing
+top-by (Some sp) = top.Span sp
 
 top_back : (r : TopLevel) → top-by (span_in r) ≡ r
 unfolding top-by span_in

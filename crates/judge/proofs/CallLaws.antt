@@ -1,14 +1,12 @@
 -- The verdict from its parts. Assumes nothing.
+use Rattle.rules.specs.declared.Offence.{Offence}
 use mathlib.Core.Path.{◌≡◌, refl, ap, sym, ◌∙◌}
-use mathlib.Core.Option.{Option, none, some}
+use Rattle.std.specs.Prelude.{Option, None, Some, ℕ, Result}
 use mathlib.Core.List.{List}
 use Prim.Native.Nat.{ℕ, ◌≤◌, ◌<◌}
 use native.Mathlib.Omega.{arith}
 use lib.ListN.{length}
-use Rattle.rules.specs.declared.Checked.{Checked}
 use Rattle.rules.specs.declared.Counts.{Counts}
-use Rattle.rules.specs.declared.Offence.{Offence}
-use Rattle.rules.specs.declared.Offence.TheVariants.{At, Nowhere}
 use Rattle.rules.specs.Checks.{checked}
 use Rattle.rules.specs.Sheet.{options_of, params_of, keeps_of, env_of, tokens_of}
 use Rattle.rules.specs.Switch.{switched_on}
@@ -20,13 +18,13 @@ use Rattle.foreign.specs.Walk.{barred_from}
 use Rattle.foreign.proofs.Walk.{barred-is}
 use Rattle.judge.specs.Asked.{offence_at}
 
-some_at : (o : Option ℕ) (i : ℕ) → offence_at o ≡ At i → o ≡ some i
-some_at none i h = absurd (let z : ◌≡◌ {A = ℕ} 0 1 = cc in omega arith)
-some_at (some j) i h = let e : j ≡ i = cc in ap (λ (m : ℕ). some m) e
+some_at : (o : Option ℕ) (i : ℕ) → offence_at o ≡ Some i → o ≡ Some i
+some_at None i h = absurd (let z : ◌≡◌ {A = ℕ} 0 1 = cc in omega arith)
+some_at (Some j) i h = let e : j ≡ i = cc in ap (λ (m : ℕ). Some m) e
 
-none-at : (o : Option ℕ) → offence_at o ≡ Nowhere → o ≡ none
-none-at none h = refl
-none-at (some j) h = absurd (let z : ◌≡◌ {A = ℕ} 0 1 = cc in omega arith)
+none-at : (o : Option ℕ) → offence_at o ≡ None → o ≡ None
+none-at None h = refl
+none-at (Some j) h = absurd (let z : ◌≡◌ {A = ℕ} 0 1 = cc in omega arith)
 
 module _ (s : List ℕ) (c : Counts) (text : List ℕ) where
   abbrev whole : Verdict
@@ -35,12 +33,12 @@ module _ (s : List ℕ) (c : Counts) (text : List ℕ) where
   abbrev barred_all : Option ℕ
   barred_all = barred_from (params_of s c) switched_on 0 (tokens_of s c)
 
-  module _ (f : Offence) (h : f ≡ offence_at barred_all) where
-    pub by-barred : (i : ℕ) → f ≡ At i → Verdict.Refused 5 i ≡ whole
+  module _ (f : Option ℕ) (h : f ≡ offence_at barred_all) where
+    pub by-barred : (i : ℕ) → f ≡ Some i → Verdict.Refused 5 i ≡ whole
     unfolding judge_tokens unless_at env_of
     by-barred i e = rw (barred-is (env_of s c 0) (tokens_of s c), some_at barred_all i (sym h ∙ e))
 
-    module _ (e : f ≡ Nowhere) (m : ℕ) (hm : m ≡ low_bytes text) where
+    module _ (e : f ≡ None) (m : ℕ) (hm : m ≡ low_bytes text) where
       pub by_high : m < length text → Verdict.Refused 15 m ≡ whole
       unfolding judge_tokens unless_at env_of
       by_high l = rw (barred-is (env_of s c 0) (tokens_of s c), none-at barred_all (sym h ∙ e), low-found 0 text (rw hm at l)) (ap (λ (k : ℕ). Verdict.Refused 15 k) (omega arith))
@@ -49,6 +47,6 @@ module _ (s : List ℕ) (c : Counts) (text : List ℕ) where
       unfolding judge_tokens unless_at env_of
       by-compared l v g = rw (barred-is (env_of s c 0) (tokens_of s c), none-at barred_all (sym h ∙ e), low-none 0 text (rw hm at l)) g
 
-pub by-checked : (s text : List ℕ) (f d : Checked) (v : Verdict) → f ≡ checked s → f ≡ d → v ≡ judge_as s text d → v ≡ judge s text
+pub by-checked : (s text : List ℕ) (f d : Result Counts Offence) (v : Verdict) → f ≡ checked s → f ≡ d → v ≡ judge_as s text d → v ≡ judge s text
 unfolding judge
 by-checked s text f d v e g h = h ∙ ap (judge_as s text) (sym g ∙ e)

@@ -1,7 +1,7 @@
 -- Laws of the two passes over the tokens. Assumes nothing.
 use mathlib.Core.Path.{◌≡◌, sym, ap, ◌∙◌}
 use mathlib.Core.Bool.{Bool, true, false, ◌&&◌}
-use mathlib.Core.Option.{Option, none, some}
+use Rattle.std.specs.Prelude.{Option, None, Some, if◌then◌else◌}
 use mathlib.Core.List.{List, []}
 use Prim.Native.Nat.{ℕ, ◌+◌, ◌-◌, ◌≤◌, ◌<◌}
 use native.Mathlib.Nat.{sub-zero}
@@ -9,11 +9,9 @@ use native.Mathlib.Numerals.{add-one}
 use native.Mathlib.Omega.{arith}
 use lib.ListN.{length, drop}
 use Rattle.rules.specs.declared.Counts.{Counts}
-use Rattle.rules.specs.declared.Offence.TheVariants.{At, Nowhere}
 use Rattle.rules.specs.declared.Token.{Token}
 use Rattle.rules.specs.declared.Turn.{Turn}
 use Rattle.rules.specs.Base.{same}
-use Rattle.std.specs.Prelude.{if◌then◌else◌}
 use Rattle.rules.specs.Text.{in_case}
 use Rattle.rules.specs.Words.{token_at, body_at}
 use Rattle.rules.specs.Sheet.{body_part, key_read, token_read, token_of, tokens_from, options_of, params_of, keeps_of, env_of, tokens_of}
@@ -58,17 +56,17 @@ module _ (s : List ℕ) (c : Counts) where
   barring-begins w e = record { within = omega arith; left = rw (e, sub-zero c.tokens) }
 
   module _ (i : ℕ) (w : Switch) (inv : Barring i w) where
-    pub barring-done : c.tokens ≤ i → Nowhere ≡ offence_at barred_all
+    pub barring-done : c.tokens ≤ i → None ≡ offence_at barred_all
     unfolding barred_from
     barring-done l = rw (← inv.left, list-end (token_of s (body_at c)) i c.tokens l)
 
     module _ (l : i < c.tokens) (base : ℕ) (eb : base ≡ body_at c) (t : Token) (et : t ≡ token_at s i) (u : Turn) (eu : u ≡ turn_of w (token_of s base i).kind (token_of s base i).value)
         (b : Bool) (h : b ≡ (lays_out u t.kind && offends (params_of s c) (key_read s (body_at c) t.key))) where
-      next : barred_all ≡ (if b then some i else barred_at (i + 1) (switch_after u w))
+      next : barred_all ≡ (if b then Some i else barred_at (i + 1) (switch_after u w))
       unfolding barred_from
       next = sym inv.left ∙ rw (list-next (token_of s (body_at c)) i c.tokens l, h, eu, et, eb, add-one)
 
-      pub barring-found : b ≡ true → At i ≡ offence_at barred_all
+      pub barring-found : b ≡ true → Some i ≡ offence_at barred_all
       barring-found e = rw (next, e)
 
       pub barring-on : b ≡ false → (x : Switch) → x ≡ switch_after u w → Barring (i + 1) x

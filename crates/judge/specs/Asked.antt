@@ -1,11 +1,8 @@
 -- What is asked of a token, and what is due of it.
-use Rattle.std.specs.Prelude.{◌≡◌, List, ℕ}
-use Rattle.std.proofs.Math.Option.{Option, none, some}
+use Rattle.std.specs.Prelude.{◌≡◌, List, ℕ, Option, None, Some}
 use Rattle.rules.specs.declared.Token.{Token}
 use Rattle.rules.specs.declared.Turn.{Turn}
 use Rattle.rules.specs.declared.Counts.{Counts}
-use Rattle.rules.specs.declared.Offence.{Offence}
-use Rattle.rules.specs.declared.Offence.TheVariants.{At, Nowhere}
 use Rattle.rules.specs.Text.{in_case}
 use Rattle.rules.specs.Words.{body_at}
 use Rattle.rules.specs.Sheet.{body_part, token_read, params_of, env_of}
@@ -25,9 +22,9 @@ form_of placeholder = Form.Filled
 form_of reserved = Form.Cased
 form_of other = Form.Own
 
-abbrev pub offence_at : Option ℕ → Offence
-offence_at none = Nowhere
-offence_at (some i) = At i
+abbrev pub offence_at : Option ℕ → Option ℕ
+offence_at None = None
+offence_at (Some i) = Some i
 
 -- a token of a checked sheet, its places in the bodies
 pub record TokenIn (s : List ℕ) (c : Counts) (t : Token) : Type 0 where

@@ -1,7 +1,7 @@
 -- Laws of the search by name, over plain variables. Assumes nothing.
 use mathlib.Core.Path.{◌≡◌, refl, ap}
 use mathlib.Core.Bool.{Bool, true, false, not}
-use mathlib.Core.Option.{none, some}
+use Rattle.std.specs.Prelude.{None, Some}
 use mathlib.Core.List.{List, [], ◌∷◌}
 use Prim.Native.Nat.{ℕ, zero, suc, ◌+◌, ◌≤◌, ◌<◌}
 use native.Mathlib.Omega.{arith}
@@ -46,12 +46,12 @@ module _ (s : List ℕ) (c : Counts) (p n : Place) (r : Bool) (d : r ≡ in_body
 
 -- ---- by number
 
-nth-get : (ps : List Param) (n : ℕ) → n < length ps → nth? ps n ≡ some (get_or ps n no_param)
+nth-get : (ps : List Param) (n : ℕ) → n < length ps → nth? ps n ≡ Some (get_or ps n no_param)
 nth-get [] n l = absurd (omega arith)
 nth-get (p ∷ ps) zero l = refl
 nth-get (p ∷ ps) (suc n) l = nth-get ps n (omega arith)
 
-nth-none : (ps : List Param) (n : ℕ) → length ps ≤ n → nth? ps n ≡ none
+nth-none : (ps : List Param) (n : ℕ) → length ps ≤ n → nth? ps n ≡ None
 nth-none [] n l = refl
 nth-none (p ∷ ps) zero l = absurd (omega arith)
 nth-none (p ∷ ps) (suc n) l = nth-none ps n (omega arith)
@@ -76,7 +76,7 @@ fails true f = absurd f
 fails false _ = refl
 
 module _ (test : Param → Bool) where
-  find_here : (ps : List Param) (i j : ℕ) → i < length ps → test (get_or ps i no_param) ≡ true → find test j (drop i ps) ≡ some j
+  find_here : (ps : List Param) (i j : ℕ) → i < length ps → test (get_or ps i no_param) ≡ true → find test j (drop i ps) ≡ Some j
   find_here [] i j l e = absurd (omega arith)
   find_here (p ∷ ps) zero j l e = rw e
   find_here (p ∷ ps) (suc i) j l e = find_here ps i j (omega arith) e
@@ -86,7 +86,7 @@ module _ (test : Param → Bool) where
   find_later (p ∷ ps) zero j l e = rw e
   find_later (p ∷ ps) (suc i) j l e = find_later ps i j (omega arith) e
 
-  find_none : (ps : List Param) (j : ℕ) → find test j (drop (length ps) ps) ≡ none
+  find_none : (ps : List Param) (j : ℕ) → find test j (drop (length ps) ps) ≡ None
   find_none [] j = refl
   find_none (p ∷ ps) j = find_none ps j
 

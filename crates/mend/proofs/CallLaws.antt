@@ -1,12 +1,11 @@
 -- The ways through the call. Assumes nothing.
+use Rattle.std.specs.Prelude.{None, Option, Some, ℕ}
 use mathlib.Core.Path.{◌≡◌, refl, sym, ap, ◌∙◌}
 use mathlib.Core.List.{List}
 use Prim.Native.Nat.{ℕ, ◌*◌, ◌≤◌, ◌<◌}
 use lib.ListN.{length, replicate}
 use borrow.Author.Tests.{lt-ltb, le-ltb}
 use Rattle.rules.specs.declared.Counts.{Counts}
-use Rattle.rules.specs.declared.Offence.{Offence}
-use Rattle.rules.specs.declared.Offence.TheVariants.{At, Nowhere}
 use Rattle.rules.specs.declared.Outcome.{Outcome}
 use Rattle.rules.specs.Checks.{sizes}
 use Rattle.checks.specs.Sound.{Sized}
@@ -32,42 +31,42 @@ module _ (s : List ℕ) (k : ℕ) where
   -- ---- past check 1
 
   module _ (c : Counts) (h : Sized s c) (n : ℕ) (en : n ≡ length (rows_of s c)) where
-    thirteen : k < 3 * n → mend_from s k Nowhere ≡ refusal 13
+    thirteen : k < 3 * n → mend_from s k None ≡ refusal 13
     unfolding mend_from
     thirteen l = rw (← h.counted, ← en, lt-ltb k (3 * n) l)
 
     module _ (l : k < 3 * n) where
-      pub thirteen-outcome : record { refusal = 13; place = 0; length = 0 } ≡ mend_outcome (mend_from s k Nowhere)
+      pub thirteen-outcome : record { refusal = 13; place = 0; length = 0 } ≡ mend_outcome (mend_from s k None)
       unfolding mend_outcome
       thirteen-outcome = rw (thirteen l)
 
-      pub thirteen-sheet : s ≡ sheet_after s (mend_from s k Nowhere)
+      pub thirteen-sheet : s ≡ sheet_after s (mend_from s k None)
       unfolding sheet_after
       thirteen-sheet = rw (thirteen l)
 
-      pub thirteen-report : (d : List ℕ) → d ≡ replicate k 0 → d ≡ report_after k (mend_from s k Nowhere)
+      pub thirteen-report : (d : List ℕ) → d ≡ replicate k 0 → d ≡ report_after k (mend_from s k None)
       unfolding report_after
       thirteen-report d z = rw (thirteen l) z
 
-    all_fit : 3 * n ≤ k → mend_from s k Nowhere ≡ mends (mended s c) (rows_of s c)
+    all_fit : 3 * n ≤ k → mend_from s k None ≡ mends (mended s c) (rows_of s c)
     unfolding mend_from
     all_fit l = rw (← h.counted, ← en, le-ltb k (3 * n) l)
 
-    pub by-mended : (u d : List ℕ) → 3 * n ≤ k → u ≡ mended s c → d ≡ report_of s c k → Told (mend_from s k Nowhere) s k (record { refusal = 0; place = 0; length = n }) u d
+    pub by-mended : (u d : List ℕ) → 3 * n ≤ k → u ≡ mended s c → d ≡ report_of s c k → Told (mend_from s k None) s k (record { refusal = 0; place = 0; length = n }) u d
     unfolding mend_outcome sheet_after report_after report_of
     by-mended u d l eu ed = rw (all_fit l) (ap (λ (m : ℕ). record { refusal = 0; place = 0; length = m }) en, (eu, ed))
 
   -- ---- check 1
 
-  module _ (o : Offence) (eo : o ≡ sizes s) where
-    one : (p : ℕ) → o ≡ At p → mend s k ≡ refusal 1
+  module _ (o : Option ℕ) (eo : o ≡ sizes s) where
+    one : (p : ℕ) → o ≡ Some p → mend s k ≡ refusal 1
     unfolding mend mend_from
     one p e = rw (sym eo ∙ e)
 
-    pub by_one : (p : ℕ) (d : List ℕ) → o ≡ At p → d ≡ replicate k 0 → Told (mend s k) s k (record { refusal = 1; place = 0; length = 0 }) s d
+    pub by_one : (p : ℕ) (d : List ℕ) → o ≡ Some p → d ≡ replicate k 0 → Told (mend s k) s k (record { refusal = 1; place = 0; length = 0 }) s d
     by_one p d e z = refused (mend s k) s k 1 d (one p e) z
 
     -- the report may be another list of the same length
-    pub by-sized : (j : ℕ) (r : Outcome) (u d : List ℕ) → j ≡ k → o ≡ Nowhere → Told (mend_from s j Nowhere) s j r u d → Told (mend s k) s k r u d
+    pub by-sized : (j : ℕ) (r : Outcome) (u d : List ℕ) → j ≡ k → o ≡ None → Told (mend_from s j None) s j r u d → Told (mend s k) s k r u d
     unfolding mend
     by-sized j r u d ej e t = rw (sym eo ∙ e, ← ej) t

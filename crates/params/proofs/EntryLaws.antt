@@ -14,12 +14,10 @@ use Rattle.rules.specs.declared.PlaceholderKind.{PlaceholderKind}
 use Rattle.rules.specs.declared.PlaceholderKind.TheVariants as key
 use Rattle.rules.specs.declared.ZeroIndexed.{ZeroIndexed}
 use Rattle.rules.specs.declared.OneIndexed.{OneIndexed}
-use Rattle.rules.specs.declared.Index.{Index}
-use Rattle.rules.specs.declared.Index.TheVariants as index
 use Rattle.rules.specs.declared.Token.{Token}
 use Rattle.rules.specs.declared.Counts.{Counts}
 use Rattle.rules.specs.Base.{same}
-use Rattle.std.specs.Prelude.{if◌then◌else◌}
+use Rattle.std.specs.Prelude.{if◌then◌else◌, Option, Some}
 use Rattle.rules.specs.Tokens.{from_one}
 use Rattle.rules.specs.Words.{word_at, place_at, params_at, body_at}
 use Rattle.rules.specs.Sheet.{body_part, name_of}
@@ -98,7 +96,7 @@ module _ (c : Counts) (n i : ℕ) (h : i ≡ n) where
   unfolding entry_at
   at-past l = rw (← h, le-ltb i c.params l)
 
-pub from_at : (c : Counts) (x : Index) (n : ZeroIndexed) (e : Entry) → x ≡ index.At n → e ≡ entry_at c n.0 → e ≡ entry_from c x
+pub from_at : (c : Counts) (x : Option ZeroIndexed) (n : ZeroIndexed) (e : Entry) → x ≡ Some n → e ≡ entry_at c n.0 → e ≡ entry_from c x
 unfolding entry_from
 from_at c x n e h g = rw (h, g)
 
@@ -115,7 +113,7 @@ module _ (c : Counts) (k : PlaceholderKind) (i : ℕ) (e : Entry) where
   unfolding entry_indexed takes_next entry_numbered
   number-zero n h g = rw (h, g)
 
-  pub number-one : (n : OneIndexed) (x : Index) → k ≡ key.One n → x ≡ from_one n → e ≡ entry_from c x → e ≡ entry_indexed c k i
+  pub number-one : (n : OneIndexed) (x : Option ZeroIndexed) → k ≡ key.One n → x ≡ from_one n → e ≡ entry_from c x → e ≡ entry_indexed c k i
   unfolding entry_indexed takes_next entry_numbered
   number-one n x h y g = rw (h, g, y)
 

@@ -1,7 +1,7 @@
 -- The entry that is found is the one that the rules show, and one of the list. Assumes nothing.
 use mathlib.Core.Path.{◌≡◌, refl, ap}
 use mathlib.Core.Bool.{Bool, true, false}
-use mathlib.Core.Option.{Option, none, some}
+use Rattle.std.specs.Prelude.{Option, None, Some, if◌then◌else◌}
 use mathlib.Core.List.{List, [], ◌∷◌}
 use Prim.Native.Nat.{ℕ, zero, suc, ◌+◌, ◌≤◌, ◌<◌}
 use native.Mathlib.Omega.{arith}
@@ -10,14 +10,11 @@ use lib.ListN.{length}
 use borrow.Author.Tests.{ltb-true, ne_eqb}
 use Rattle.rules.specs.declared.PlaceholderKind.{PlaceholderKind}
 use Rattle.rules.specs.declared.PlaceholderKind.TheVariants as key
-use Rattle.rules.specs.declared.Index.{Index}
-use Rattle.rules.specs.declared.Index.TheVariants as index
 use Rattle.rules.specs.declared.Counts.{Counts}
 use Rattle.rules.specs.Base.{same, find, nth?}
-use Rattle.std.specs.Prelude.{if◌then◌else◌}
 use Rattle.rules.specs.Tokens.{named, from_one}
 use Rattle.rules.specs.Words.{word_at, body_at}
-use Rattle.rules.specs.Sheet.{body_part, list_of, key_read, Param, None, Indexed, Named, value_of, param_of, params_of}
+use Rattle.rules.specs.Sheet.{body_part, list_of, key_read, Param, NoParams, Indexed, Named, value_of, param_of, params_of}
 use Rattle.rules.specs.Params.{by_name, by_number, by_index, source, value_in, value_at, value_from, entry}
 use Rattle.places.proofs.Laws.{length_part}
 use Rattle.params.specs.declared.Entry.{Entry}
@@ -32,20 +29,20 @@ module _ {A : Type 0} (f : ℕ → A) where
   length-list j zero = refl
   length-list j (suc k) = ap suc (length-list (suc j) k)
 
-  pub nth_in : (j k i : ℕ) → i < k → nth? (list_of f j k) i ≡ some (f (j + i))
+  pub nth_in : (j k i : ℕ) → i < k → nth? (list_of f j k) i ≡ Some (f (j + i))
   unfolding list_of
   nth_in j zero i h = absurd (omega arith)
   nth_in j (suc k) zero h = let e : j + 0 ≡ j = omega arith in rw e
   nth_in j (suc k) (suc i) h = let e : j + suc i ≡ suc j + i = omega arith in rw e (nth_in (suc j) k i (omega arith))
 
-  pub nth_past : (j k i : ℕ) → k ≤ i → nth? (list_of f j k) i ≡ none
+  pub nth_past : (j k i : ℕ) → k ≤ i → nth? (list_of f j k) i ≡ None
   unfolding list_of
   nth_past j zero i h = refl
   nth_past j (suc k) zero h = absurd (omega arith)
   nth_past j (suc k) (suc i) h = nth_past (suc j) k i (omega arith)
 
 -- one of two entries
-pick : (i : ℕ) (b : Bool) (e : Entry) (o : Option ℕ) → number_in e ≡ o → number_in (if b then Entry.At i else e) ≡ (if b then some i else o)
+pick : (i : ℕ) (b : Bool) (e : Entry) (o : Option ℕ) → number_in e ≡ o → number_in (if b then Entry.At i else e) ≡ (if b then Some i else o)
 pick i true e o h = refl
 pick i false e o h = h
 
@@ -72,12 +69,12 @@ module _ (s : List ℕ) (c : Counts) where
 
   at_is : (i : ℕ) → number_in (entry_at c i) ≡ by_number values i
   unfolding entry_at by_number
-  at_is i = rw (length-list (value_of s c) 0 c.params) (pick i (ltb i c.params) Entry.Nothing none refl)
+  at_is i = rw (length-list (value_of s c) 0 c.params) (pick i (ltb i c.params) Entry.Nothing None refl)
 
-  from_is : (n : Index) → number_in (entry_from c n) ≡ by_index values n
+  from_is : (n : Option ZeroIndexed) → number_in (entry_from c n) ≡ by_index values n
   unfolding entry_from by_index
-  from_is (index.At n) = at_is n.0
-  from_is index.Refused = refl
+  from_is (Some n) = at_is n.0
+  from_is None = refl
 
   -- ---- the lookup
 
@@ -106,7 +103,7 @@ module _ (s : List ℕ) (c : Counts) where
     unfolding entry_for params_of source
     entry-is k h = by_mode (eqb (word_at s 16) 0) (eqb (word_at s 16) 1)
       where
-        by_mode : (z o : Bool) → number_in (if z then Entry.Nothing else if o then entry_indexed c k i else entry_keyed s c k) ≡ source (if z then None else if o then Indexed values else Named table) (key_read s (body_at c) k) i
+        by_mode : (z o : Bool) → number_in (if z then Entry.Nothing else if o then entry_indexed c k i else entry_keyed s c k) ≡ source (if z then NoParams else if o then Indexed values else Named table) (key_read s (body_at c) k) i
         by_mode true o = refl
         by_mode false true = indexed-is k h
         by_mode false false = keyed-is k
@@ -137,10 +134,10 @@ module _ (s : List ℕ) (c : Counts) where
   unfolding entry_at
   at-below i = below-if c.params (ltb i c.params) _ _ (λ e. below_at c.params i (ltb-true _ _ e)) (below-nothing c.params)
 
-  from-below : (n : Index) → Below c.params (entry_from c n)
+  from-below : (n : Option ZeroIndexed) → Below c.params (entry_from c n)
   unfolding entry_from
-  from-below (index.At n) = at-below n.0
-  from-below index.Refused = below-nothing c.params
+  from-below (Some n) = at-below n.0
+  from-below None = below-nothing c.params
 
   keyed-below : (k : PlaceholderKind) → Below c.params (entry_keyed s c k)
   unfolding entry_keyed
@@ -168,17 +165,17 @@ module _ (s : List ℕ) (c : Counts) where
 module _ (s : List ℕ) (c : Counts) where
   -- the bytes of an entry's value
   abbrev pub bytes_of : Entry → Option (List ℕ)
-  bytes_of (Entry.At i) = some (value_of s c i)
-  bytes_of Entry.Nothing = none
+  bytes_of (Entry.At i) = Some (value_of s c i)
+  bytes_of Entry.Nothing = None
 
   numbered-value : (e : Entry) → Below c.params e → bytes_of e ≡ value_from (Indexed (values s c)) (number_in e)
   unfolding value_from value_at
-  numbered-value (Entry.At j) b = rw (nth_in (value_of s c) 0 c.params j (b j refl)) (ap (λ (m : ℕ). some (value_of s c m)) (omega arith))
+  numbered-value (Entry.At j) b = rw (nth_in (value_of s c) 0 c.params j (b j refl)) (ap (λ (m : ℕ). Some (value_of s c m)) (omega arith))
   numbered-value Entry.Nothing b = refl
 
   named_value : (e : Entry) → Below c.params e → bytes_of e ≡ value_from (Named (table s c)) (number_in e)
   unfolding value_from value_at value_in
-  named_value (Entry.At j) b = rw (nth_in (param_of s c) 0 c.params j (b j refl)) (ap (λ (m : ℕ). some (value_of s c m)) (omega arith))
+  named_value (Entry.At j) b = rw (nth_in (param_of s c) 0 c.params j (b j refl)) (ap (λ (m : ℕ). Some (value_of s c m)) (omega arith))
   named_value Entry.Nothing b = refl
 
   pub entry-bytes : (k : PlaceholderKind) (i : ℕ) → KeyIn s (body_at c) k → bytes_of (entry_for s c k i) ≡ entry (params_of s c) (key_read s (body_at c) k) i

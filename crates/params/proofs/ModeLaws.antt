@@ -10,19 +10,18 @@ use borrow.Author.Tests.{ne_eqb}
 use Rattle.rules.specs.declared.PlaceholderKind.{PlaceholderKind}
 use Rattle.rules.specs.declared.PlaceholderKind.TheVariants as key
 use Rattle.rules.specs.declared.OneIndexed.{OneIndexed}
-use Rattle.rules.specs.declared.Index.{Index}
 use Rattle.rules.specs.declared.Token.{Token}
 use Rattle.rules.specs.declared.Counts.{Counts}
-use Rattle.std.specs.Prelude.{if◌then◌else◌}
+use Rattle.std.specs.Prelude.{if◌then◌else◌, Option}
 use Rattle.rules.specs.Tokens.{Key, named, from_one}
 use Rattle.rules.specs.Words.{word_at, body_at}
-use Rattle.rules.specs.Sheet.{body_part, list_of, key_read, Param, QueryParams, None, Indexed, Named, param_of, params_of}
+use Rattle.rules.specs.Sheet.{body_part, list_of, key_read, Param, QueryParams, NoParams, Indexed, Named, param_of, params_of}
 use Rattle.rules.specs.Params.{advances, is_refused, offends}
 use Rattle.places.proofs.Laws.{length_part}
 use Rattle.params.specs.declared.Found.{Found}
 use Rattle.params.specs.Entries.{KeyIn, takes_next, key_refused, found_of, shown_of}
 
-neither : (f : QueryParams → Bool) → f None ≡ false → ((ps : List Param) → f (Named ps) ≡ false) → (z : Bool) (ps : List Param) → f (if z then None else Named ps) ≡ false
+neither : (f : QueryParams → Bool) → f NoParams ≡ false → ((ps : List Param) → f (Named ps) ≡ false) → (z : Bool) (ps : List Param) → f (if z then NoParams else Named ps) ≡ false
 neither f p q true ps = p
 neither f p q false ps = q ps
 
@@ -38,7 +37,7 @@ key-advances ps s base (key.Named p) h = name-advances ps (body_part s base p) p
 key-advances ps s base (key.Zero n) h = refl
 key-advances ps s base (key.One n) h = refl
 
-pub refused-one : (k : PlaceholderKind) (n : OneIndexed) (x : Index) (r : Bool) → k ≡ key.One n → x ≡ from_one n → r ≡ is_refused x → r ≡ key_refused k
+pub refused-one : (k : PlaceholderKind) (n : OneIndexed) (x : Option ZeroIndexed) (r : Bool) → k ≡ key.One n → x ≡ from_one n → r ≡ is_refused x → r ≡ key_refused k
 unfolding key_refused
 refused-one k n x r e f g = rw (e, g, f)
 

@@ -8,7 +8,7 @@ use native.Mathlib.Omega.{arith}
 use Rattle.rules.specs.declared.Token.{Token}
 use Rattle.rules.specs.declared.Counts.{Counts}
 use Rattle.rules.specs.Base.{or_else}
-use Rattle.std.specs.Prelude.{if◌then◌else◌}
+use Rattle.std.specs.Prelude.{if◌then◌else◌, unwrap_or}
 use Rattle.rules.specs.Words.{token_at, body_at}
 use Rattle.rules.specs.Sheet.{body_part, key_read, value_of, params_of}
 use Rattle.rules.specs.Params.{source, get, advances}
@@ -38,7 +38,7 @@ module _ (s : List ℕ) (c : Counts) (t : Token) (i : ℕ) (r : Shown) (h : r �
   unfolding shown_of get found_of place_in value_of
   shown-bytes kin = rw (h, ← entry-bytes s c t.key i kin) (go (entry_for s c t.key i))
     where
-      go : (e : Entry) → body_part s (body_at c) (place_in s c t.value e) ≡ or_else (body_part s (body_at c) t.value) (bytes_of s c e)
+      go : (e : Entry) → body_part s (body_at c) (place_in s c t.value e) ≡ unwrap_or (bytes_of s c e) (body_part s (body_at c) t.value)
       go (Entry.At j) = refl
       go Entry.Nothing = refl
 

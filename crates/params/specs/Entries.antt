@@ -1,10 +1,8 @@
 -- Which entry of the parameter list a placeholder shows, by its number, and where what is shown stands.
-use Rattle.std.specs.Prelude.{if◌then◌else◌, ◌≡◌, Bool, true, false, List, [], ℕ, zero, suc, ◌+◌, ◌*◌, eqb, ltb}
+use Rattle.std.specs.Prelude.{if◌then◌else◌, ◌≡◌, Bool, true, false, List, [], ℕ, zero, suc, ◌+◌, ◌*◌, eqb, ltb, None, Option, Some}
 use Rattle.rules.specs.declared.Place.{Place}
 use Rattle.rules.specs.declared.PlaceholderKind.{PlaceholderKind}
 use Rattle.rules.specs.declared.PlaceholderKind.TheVariants as key
-use Rattle.rules.specs.declared.Index.{Index}
-use Rattle.rules.specs.declared.Index.TheVariants as index
 use Rattle.rules.specs.declared.Token.{Token}
 use Rattle.rules.specs.declared.Counts.{Counts}
 use Rattle.rules.specs.Base.{same}
@@ -46,9 +44,9 @@ entry_keyed s c (key.One n) = entry_named s c []
 unfoldable pub entry_at : Counts → ℕ → Entry
 entry_at c i = if ltb i c.params then Entry.At i else Entry.Nothing
 
-unfoldable pub entry_from : Counts → Index → Entry
-entry_from c (index.At n) = entry_at c n.0
-entry_from c index.Refused = Entry.Nothing
+unfoldable pub entry_from : Counts → Option ZeroIndexed → Entry
+entry_from c (Some n) = entry_at c n.0
+entry_from c None = Entry.Nothing
 
 -- no key, or an empty name
 unfoldable pub takes_next : PlaceholderKind → Bool

@@ -1,12 +1,11 @@
 -- An entry's number, as the rules say it, and a bound on it.
-use Rattle.std.specs.Prelude.{◌≡◌, ℕ, ◌<◌}
-use Rattle.std.proofs.Math.Option.{Option, none, some}
+use Rattle.std.specs.Prelude.{◌≡◌, ℕ, ◌<◌, Option, None, Some}
 use Rattle.params.specs.declared.Entry.{Entry}
 
 -- the number of an entry, as the rules say it
 abbrev pub number_in : Entry → Option ℕ
-number_in (Entry.At i) = some i
-number_in Entry.Nothing = none
+number_in (Entry.At i) = Some i
+number_in Entry.Nothing = None
 
 -- its number is below k
 abbrev pub Below : ℕ → Entry → Type 0

@@ -1,7 +1,7 @@
 -- A list for rows holds these rows, so what a function promises of the words it promises of the rows. Assumes nothing.
 use mathlib.Core.Path.{◌≡◌, refl, sym, ap, ◌∙◌}
 use mathlib.Core.Bool.{Bool, true, false}
-use mathlib.Core.Option.{Option, none, some}
+use Rattle.std.specs.Prelude.{Option, None, Some, if◌then◌else◌}
 use mathlib.Core.List.{List, [], ◌∷◌, ◌++◌, map, append_assoc}
 use Prim.Native.Nat.{ℕ, zero, suc, ◌+◌, ◌-◌, ◌*◌, ◌<◌}
 use native.Mathlib.Omega.{arith}
@@ -9,16 +9,15 @@ use lib.Dec.{eqb}
 use lib.ListN.{length, get_or, replicate}
 use borrow.Author.Tests.{ne_eqb}
 use Rattle.rules.specs.Base.{◌▹◌, when}
-use Rattle.std.specs.Prelude.{if◌then◌else◌}
 use Rattle.rules.specs.Rows.{Row, between, clip, entry_word, row_words, rows_words}
 use Rattle.rows.specs.Listing.{entry_of, row_of, row_at, rows_in, listing, count_after, Words}
 use Rattle.rows.proofs.ReadLaws.{length-rows, length-in, length-map, token-in, entry_in, start-in, len-in}
 
 -- an entry's number that is below the word for none
-pub entry-back : (o : Option ℕ) → ((n : ℕ) → o ≡ some n → n < 4294967295) → entry_of (entry_word o) ≡ o
+pub entry-back : (o : Option ℕ) → ((n : ℕ) → o ≡ Some n → n < 4294967295) → entry_of (entry_word o) ≡ o
 unfolding entry_of entry_word
-entry-back none l = refl
-entry-back (some n) l = let h : n < 4294967295 = l n refl in rw (ne_eqb n 4294967295 (λ z. omega arith))
+entry-back None l = refl
+entry-back (Some n) l = let h : n < 4294967295 = l n refl in rw (ne_eqb n 4294967295 (λ z. omega arith))
 
 -- each row's entry has a word
 unfoldable pub Worded : List Row → Type 0
@@ -51,7 +50,7 @@ worded_word : (n : ℕ) → entry_of (entry_word (entry_of n)) ≡ entry_of n
 unfolding entry_of entry_word
 worded_word n = by-test (eqb n 4294967295) refl
   where
-    by-test : (b : Bool) → eqb n 4294967295 ≡ b → entry_of (entry_word (if b then none else some n)) ≡ (if b then none else some n)
+    by-test : (b : Bool) → eqb n 4294967295 ≡ b → entry_of (entry_word (if b then None else Some n)) ≡ (if b then None else Some n)
     by-test true e = refl
     by-test false e = rw e
 

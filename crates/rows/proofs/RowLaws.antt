@@ -1,7 +1,7 @@
 -- Laws of `clip`, `add` and `trim`, over plain variables. Assumes nothing.
 use mathlib.Core.Path.{◌≡◌, refl, sym, ap, ◌∙◌}
 use mathlib.Core.Bool.{Bool, true, false}
-use mathlib.Core.Option.{none, some}
+use Rattle.std.specs.Prelude.{None, Some, if◌then◌else◌}
 use mathlib.Core.List.{List, [], ◌∷◌, ◌++◌, map, append_assoc}
 use Prim.Native.Nat.{ℕ, suc, ◌+◌, ◌-◌, ◌*◌, ◌/◌, ◌%◌, ◌^◌, ◌≤◌, ◌<◌, min}
 use native.Mathlib.Omega.{arith}
@@ -10,7 +10,6 @@ use lib.ListN.{length, get_or, set, replicate, length-append, length-set}
 use lib.Seq.{set_at}
 use borrow.Author.Tests.{eqb-true}
 use Rattle.rules.specs.Base.{◌▹◌, when}
-use Rattle.std.specs.Prelude.{if◌then◌else◌}
 use Rattle.rules.specs.Rows.{Row, between, clip, shift, entry_word, row_words, rows_words}
 use Rattle.rows.specs.declared.Span.{Span}
 use Rattle.rows.specs.Listing.{start_at, len_at, with_span, entry_of, row_of, row_at, rows_in, listing, count_after, InOrder, Words, Listed}
@@ -116,7 +115,7 @@ word_back : (w : ℕ) → entry_word (entry_of w) ≡ w
 unfolding entry_word entry_of
 word_back w = by-test (eqb w 4294967295) refl
   where
-    by-test : (b : Bool) → eqb w 4294967295 ≡ b → entry_word (if b then none else some w) ≡ w
+    by-test : (b : Bool) → eqb w 4294967295 ≡ b → entry_word (if b then None else Some w) ≡ w
     by-test true e = sym (eqb-true w 4294967295 e)
     by-test false e = refl
 

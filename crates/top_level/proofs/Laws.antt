@@ -1,15 +1,13 @@
 -- Each handler's rule from what its calls gave. Assumes nothing.
 use mathlib.Core.Path.{◌≡◌, refl, ◌∙◌}
 use mathlib.Core.Bool.{Bool, true, false, not, ◌&&◌}
-use mathlib.Core.Option.{Option}
+use Rattle.std.specs.Prelude.{Option, if◌then◌else◌, None, Some, ℕ}
 use mathlib.Core.List.{List, [], ◌∷◌}
 use Prim.Native.Nat.{ℕ, ◌+◌, ◌-◌, ◌≤◌, ◌<◌}
 use native.Mathlib.Omega.{arith}
 use lib.Dec.{ltb}
 use lib.ListN.{length}
 use Rattle.rules.specs.declared.Case.{Case}
-use Rattle.rules.specs.declared.Limit.{Limit}
-use Rattle.rules.specs.declared.Limit.TheVariants as limits
 use Rattle.rules.specs.declared.SpanInfo.{SpanInfo}
 use Rattle.rules.specs.declared.IndentType.{IndentType}
 use Rattle.rules.specs.declared.IndentType.TheVariants.{Top, Block, FoldedBlock}
@@ -40,7 +38,6 @@ use Rattle.state.proofs.Below.{below_up, top_below, untop_below, top-level-below
 use Rattle.state.specs.Of.{value_in, word_of, state_of, with_indentation, Known, Ready, env_in, here_in, Handled, given}
 use Rattle.state.proofs.Laws.{by-halves}
 use Rattle.rules.specs.Base.{when, full}
-use Rattle.std.specs.Prelude.{if◌then◌else◌}
 use Rattle.reserved.proofs.Laws.{when-below, when-words, level-words, full-words, written, word-is}
 use Rattle.top_level.specs.declared.Levels.{Levels}
 use Rattle.top_level.specs.Levels.{out_of, into_of, Turned}
@@ -158,11 +155,11 @@ pub by-longer : (most len : ℕ) (last : TopLevel) (sp : SpanInfo) (a b c : ℕ)
 unfolding newline_before span_in
 by-longer most len last sp a b c e ha hb hc = rw (e, ha.0, hb.0, hc.0)
 
-pub no-limit : (limit : Limit) (o : Option SpanInfo) (len : ℕ) → limit ≡ limits.None → true ≡ newline_before limit o len
+pub no-limit : (limit : Option ℕ) (o : Option SpanInfo) (len : ℕ) → limit ≡ limits.None → true ≡ newline_before limit o len
 unfolding newline_before
 no-limit limit o len e = rw e
 
-pub by-limit : (limit : Limit) (o : Option SpanInfo) (most len : ℕ) (b : Bool) → limit ≡ limits.Some most → b ≡ newline_before (limits.Some most) o len → b ≡ newline_before limit o len
+pub by-limit : (limit : Option ℕ) (o : Option SpanInfo) (most len : ℕ) (b : Bool) → limit ≡ limits.Some most → b ≡ newline_before (limits.Some most) o len → b ≡ newline_before limit o len
 by-limit limit o most len b e h = rw e h
 
 -- ---- the handlers

@@ -1,13 +1,12 @@
 -- A placeholder shows what the rules show, hands its counter on, and says where it had it from. Assumes nothing.
 use mathlib.Core.Path.{◌≡◌, sym, ap, ◌∙◌}
 use mathlib.Core.Bool.{Bool}
-use mathlib.Core.Option.{some}
+use Rattle.std.specs.Prelude.{Some, if◌then◌else◌}
 use mathlib.Core.List.{List}
 use Prim.Native.Nat.{ℕ, suc, ◌+◌, ◌≤◌, ◌<◌}
 use native.Mathlib.Numerals.{add-one}
 use native.Mathlib.Omega.{arith}
 use lib.ListN.{length}
-use Rattle.std.specs.Prelude.{if◌then◌else◌}
 use Rattle.rules.specs.declared.Counts.{Counts}
 use Rattle.rules.specs.declared.Token.{Token}
 use Rattle.rules.specs.Words.{token_at, body_at}
@@ -44,7 +43,7 @@ pub by-entry : (e : Entry) (n r : ℕ) → e ≡ Entry.At n → r ≡ n → r �
 unfolding entry_word
 by-entry e n r q f = rw q f
 
-entry_at : (e : Entry) (n : ℕ) → number_in e ≡ some n → e ≡ Entry.At n
+entry_at : (e : Entry) (n : ℕ) → number_in e ≡ Some n → e ≡ Entry.At n
 entry_at (Entry.At j) n q = let z : j ≡ n = cc in rw z
 entry_at Entry.Nothing n q = absurd (let z : ◌≡◌ {A = ℕ} 0 1 = cc in omega arith)
 
