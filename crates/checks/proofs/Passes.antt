@@ -147,7 +147,7 @@ module _ (s : List ℕ) where
 
 -- ---- check 3
 
-named-key : (class a b : ℕ) (p : Place) → key_of class a b ≡ key.Named p → (class ≡ 1) × (record { start = a; len = b } ≡ p)
+named-key : (class a b : ℕ) (p : Place) → key_of class a b ≡ Some (key.Named p) → (class ≡ 1) × (record { start = a; len = b } ≡ p)
 unfolding key_of
 named-key zero a b p h = absurd (let z : ◌≡◌ {A = ℕ} 0 1 = cc in omega arith)
 named-key (suc zero) a b p h = (refl, cc)
