@@ -72,14 +72,7 @@ fn inline_from(w: u32) -> Inline
 fn limit_from(w: u32) -> Option<u32>
     ensures { result ≡ limit_from w }
 {
-    if w == 4294967295 { None } else { Some(w) }
-}
-
-fn narrow(w: u32) -> u8
-    requires { w ≤ 255 }
-    ensures { result ≡ w }
-{
-    w as u8
+    if w == u32::MAX { None } else { Some(w) }
 }
 
 #[tactic(auto, unfolding(rules::specs::Sheet::options_of))]
@@ -91,7 +84,7 @@ pub fn options_of(s: &[u8]) -> FormatOptions
         indent: indent_from(word_at(s, 20)),
         casing: case_from(word_at(s, 24)),
         inline: inline_from(word_at(s, 28)),
-        lines_between_queries: narrow(word_at(s, 32)),
+        lines_between_queries: word_at(s, 32) as u8,
         max_inline_block: word_at(s, 36),
         max_inline_arguments: limit_from(word_at(s, 40)),
         max_inline_top_level: limit_from(word_at(s, 44)),
