@@ -1,6 +1,6 @@
 -- Wish 10: what a mended sheet is to the sheet that it was made of, and that a sound sheet is untouched.
 use Rattle.rules.specs.declared.Offence.TheVariants as offence
-use Rattle.std.specs.Prelude.{None, Option, Some, ℕ, Err, Ok}
+use Rattle.std.specs.Prelude.{None, Option, Some, Ok}
 use mathlib.Core.Path.{◌≡◌, refl, sym}
 use mathlib.Core.List.{List, []}
 use Prim.Native.Nat.{ℕ}
@@ -21,8 +21,8 @@ use Rattle.mended.proofs.Untouched.{no-changes, stays}
 -- ---- a sound sheet
 
 -- the offence of check 1, where the four checks find none
-sized : (s : List ℕ) (c : Counts) (o : Option ℕ) → refused_as (λ p. (Err offence.Size)) o (checked_as s (counts_of s)) ≡ Ok c → o ≡ None
-sized s c (Some p) h = absurd (let z : ◌≡◌ {A = ℕ} 0 1 = cc in omega arith)
+sized : (s : List ℕ) (c : Counts) (o : Option ℕ) → refused_as (λ p. offence.Size) o (checked_as s (counts_of s)) ≡ Ok c → o ≡ None
+sized s c (Some p) h = cc
 sized s c None h = refl
 
 module _ (s : List ℕ) (small : Small s) (c : Counts) (h : checked s ≡ Ok c) where
