@@ -1,5 +1,5 @@
 -- The first offence of a table's records, found a record at a time.
-use Rattle.std.proofs.Common.{◌≡◌, subst, ℕ, List, [], ◌∷◌, length, take, drop, get_or, zero, suc, ◌+◌, ◌-◌, ◌*◌, ◌<◌, ◌≤◌, refl, sym, ◌∙◌, arith}
+use Rattle.std.proofs.Common.{◌≡◌, subst, ℕ, List, [], ◌∷◌, length, take, drop, get_or, zero, suc, ◌+◌, ◌-◌, ◌*◌, ◌<◌, ◌≤◌, sym, ◌∙◌, arith}
 use denote.Param.Members.{Mut}
 use Rattle.std.specs.Prelude.{Option, None, Some, MatchOption, IsTrue}
 use Rattle.std.specs.Option.{option_map, option_or}
@@ -8,28 +8,18 @@ use Rattle.std.specs.Iterator.Runs.{Run, SomeRun, AllItemsGive, IsFirstToGive, I
 use Rattle.std.specs.declared.ops.Range.{Range}
 use Rattle.std.proofs.iter.Yields.{nat_range_steps}
 use Rattle.std.proofs.iter.runs.Sources.{range_runs}
-use native.Mathlib.Nat.{mul-suc}
 use Rattle.std.proofs.lemmas.List.{get_or-take, get_or-drop}
 use Rattle.std.proofs.lemmas.Grind.{common_steps}
 use borrow.Author.Tests.{lt-ltb}
 use lib.Bits.{or_add_and, and_le_l, and_le_r}
 use Rattle.std.specs.Prelude.{fold, bit_or}
+use Rattle.checks.proofs.Passes.{next, none_first}
 use Rattle.rules.specs.Checks.{or_later, first_of, body_byte}
-
-next : (at size i : ℕ) → at + size + size * i ≡ at + size * suc i
-next at size i = omega (arith, mul-suc size i)
 
 start : (at size : ℕ) → at + size * 0 ≡ at
 start at size = omega arith
 
 module _ (f : ℕ → Option ℕ) (size : ℕ) where
-  passed : (at n : ℕ) → ((i : ℕ) → i < n → f (at + size * i) ≡ None) → None ≡ first_of f size at n
-  unfolding first_of
-  passed at zero h = refl
-  passed at (suc n) h =
-      let here : f at ≡ None = rw start at (h 0 (omega arith)) in
-      rw here (passed (at + size) n (λ i l. rw (next at size i) (h (suc i) (omega arith))))
-
   found : (at n i y : ℕ) → i < n → f (at + size * i) ≡ Some y → ((k : ℕ) → k < i → f (at + size * k) ≡ None) → Some y ≡ first_of f size at n
   unfolding first_of
   found at zero i y l e h = absurd (omega arith)
@@ -64,9 +54,9 @@ module _ {F : Type 0} {g : Mut F (ℕ × Unit {0}) (Option ℕ)} {q : F} (f : �
       keeps a o q' m = (k a.0 o q' m).0
 
       by : (r' : Option ℕ) → MatchOption r' (IsTrue p.whole × AllItemsGive p g q None) (λ y. (i : ℕ) × (i < p.len) × (p.len ≡ i + 1) × IsFirstToGive p g q (Some y) None i) → r' ≡ first_of f size at n
-      by None m = passed f size at n (λ i l.
+      by None m = sym (none_first f size at n (λ i l.
           let long : p.len ≡ n = omega (arith, up.1 m.0) in
-          sym (k i None q (rw (item i (omega arith)) at (m.1 keeps i))).1)
+          sym (k i None q (rw (item i (omega arith)) at (m.1 keeps i))).1))
       by (Some y) m =
           let w = m.3 keeps in
           found f size at n m.0 y (omega (arith, up.0, m.1))
@@ -95,9 +85,9 @@ unfolding body_byte
 low-none s from n fit h =
     let m = from + n - from in
     let t = (low-each (take m (drop from s)) 0 h).1 in
-    passed (body_byte s) 1 from n (λ i l.
+    sym (none_first (body_byte s) 1 from n (λ i l.
     let at : from + 1 * i ≡ from + i = omega arith in
     let within : i < m = omega arith in
     let long : i < length (take m (drop from s)) = grind (arith, common_steps) in
     let low : get_or s (from + i) 0 < 128 = rw (get_or-take m (drop from s) i 0 within, get_or-drop from s i 0) at (t i long) in
-    rw (at, lt-ltb _ _ low))
+    rw (at, lt-ltb _ _ low)))

@@ -38,7 +38,7 @@ if-not x k a b h e = rw (ne_eqb x k e) at h
 
 pub demanded-holds : (b : Bool) (at : ℕ) (later : Option ℕ) → demanded b at later ≡ None → (b ≡ true) × (later ≡ None)
 demanded-holds true at later h = (refl, h)
-demanded-holds false at later h = absurd (let z : ◌≡◌ {A = ℕ} 0 1 = cc in omega arith)
+demanded-holds false at later h = cc
 
 -- two demands in turn
 both_hold : (a b : Bool) (p q : ℕ) (later : Option ℕ) → demanded a p (demanded b q later) ≡ None → ((a ≡ true) × (b ≡ true)) × (later ≡ None)
@@ -48,10 +48,10 @@ both_hold a b p q later h =
     ((one.0, two.0), two.1)
 
 pub or_neither : (o later : Option ℕ) → or_later o later ≡ None → (o ≡ None) × (later ≡ None)
-or_neither (Some p) later h = absurd (let z : ◌≡◌ {A = ℕ} 0 1 = cc in omega arith)
+or_neither (Some p) later h = cc
 or_neither None later h = (refl, h)
 
-next : (at size i : ℕ) → at + size + size * i ≡ at + size * suc i
+pub next : (at size i : ℕ) → at + size + size * i ≡ at + size * suc i
 next at size i = omega (arith, mul-suc size i)
 
 -- no record of k offends
@@ -62,6 +62,15 @@ none_of f size at (suc k) h zero l = let e : at + size * 0 ≡ at = omega arith 
 none_of f size at (suc k) h (suc i) l =
     let r = none_of f size (at + size) k (or_neither (f at) (first_of f size (at + size) k) h).1 i (omega arith) in
     rw (next at size i) at r
+
+-- nor does the first of them, where none does
+pub none_first : (f : ℕ → Option ℕ) (size at k : ℕ) → ((i : ℕ) → i < k → f (at + size * i) ≡ None) → first_of f size at k ≡ None
+unfolding first_of
+none_first f size at zero h = refl
+none_first f size at (suc k) h =
+    let e : at + size * 0 ≡ at = omega arith in
+    let here : f at ≡ None = rw e at (h 0 (omega arith)) in
+    rw here (none_first f size (at + size) k (λ i l. rw (next at size i) (h (suc i) (omega arith))))
 
 -- ---- check 1
 
@@ -149,10 +158,10 @@ module _ (s : List ℕ) where
 
 named-key : (class a b : ℕ) (p : Place) → key_of class a b ≡ Some (key.Named p) → (class ≡ 1) × (record { start = a; len = b } ≡ p)
 unfolding key_of
-named-key zero a b p h = absurd (let z : ◌≡◌ {A = ℕ} 0 1 = cc in omega arith)
+named-key zero a b p h = cc
 named-key (suc zero) a b p h = (refl, cc)
-named-key (suc (suc zero)) a b p h = absurd (let z : ◌≡◌ {A = ℕ} 0 1 = cc in omega arith)
-named-key (suc (suc (suc n))) a b p h = absurd (let z : ◌≡◌ {A = ℕ} 0 1 = cc in omega arith)
+named-key (suc (suc zero)) a b p h = cc
+named-key (suc (suc (suc n))) a b p h = cc
 
 module _ (s : List ℕ) (base bytes : ℕ) (long : length s ≡ base + bytes) where
   inside : (p : Place) → in_body p bytes ≡ true → Inside s base p

@@ -2,19 +2,19 @@
 use mathlib.Core.Bool.{Bool, true, false, ◌&&◌}
 use mathlib.Core.Path.{◌≡◌, refl, ap, sym, ◌∙◌}
 use mathlib.Core.List.{List}
-use Prim.Native.Nat.{ℕ, zero, suc, ◌+◌, ◌*◌, ◌%◌, ◌≤◌, ◌<◌}
-use native.Mathlib.Nat.{mul-suc}
+use Prim.Native.Nat.{ℕ, ◌+◌, ◌*◌, ◌%◌, ◌≤◌, ◌<◌}
 use native.Mathlib.Omega.{arith}
 use lib.Dec.{eqb, leb}
 use lib.ListN.{get_or}
 use borrow.Author.Tests.{eqb-true, eqb-false, eq-eqb, le-leb, lt-ltb}
 use Rattle.rules.specs.declared.Counts.{Counts}
 use Rattle.rules.specs.declared.Place.{Place}
-use Rattle.std.specs.Prelude.{if◌then◌else◌, None, Option, ℕ, Ok}
+use Rattle.std.specs.Prelude.{if◌then◌else◌, None, ℕ, Ok}
 use Rattle.rules.specs.Words.{word_at, place_at, counts_of, class_bits, kind_bits, upper_bits, tokens_at, params_at, keeps_at, body_at}
-use Rattle.rules.specs.Checks.{first_of, sizes, head_words, token_words, param_words, words, in_body, token_places, param_places, keep_places, places, body_byte, body_bytes, checked_as, checked}
+use Rattle.rules.specs.Checks.{sizes, head_words, token_words, param_words, words, in_body, token_places, param_places, keep_places, places, body_byte, body_bytes, checked_as, checked}
 use Rattle.rules.specs.Compacted.{kept_bytes, kept_before, compacted}
 use Rattle.records.specs.Sheeted.{Sheeted}
+use Rattle.checks.proofs.Passes.{none_first}
 use Rattle.compacted.proofs.Bytes.{length-compacted, byte-new}
 use Rattle.compacted.proofs.Places.{Start, of-value, of-name, of-record}
 use Rattle.compacted.proofs.Kept.{kept-le, kept_byte, kept-each}
@@ -31,16 +31,6 @@ if-fits x k a b p q = go (eqb x k) refl
     go : (e : Bool) → eqb x k ≡ e → (if e then a else b) ≡ true
     go true e = p (eqb-true x k e)
     go false e = q (eqb-false x k e)
-
-none_first : (f : ℕ → Option ℕ) (size at k : ℕ) → ((i : ℕ) → i < k → f (at + size * i) ≡ None) → first_of f size at k ≡ None
-unfolding first_of
-none_first f size at zero h = refl
-none_first f size at (suc k) h =
-    let e : at + size * 0 ≡ at = omega arith in
-    let here : f at ≡ None = rw e at (h 0 (omega arith)) in
-    rw here (none_first f size (at + size) k (λ i l.
-    let o : at + size * suc i ≡ at + size + size * i = omega (arith, mul-suc size i) in
-    rw o at (h (suc i) (omega arith))))
 
 module _ (s : List ℕ) (c : Counts) (h : Sheeted s c) where
   -- ---- check 1

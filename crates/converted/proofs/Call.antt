@@ -55,10 +55,10 @@ module _ (s : List ℕ) where
   converts-so : (k : Result Counts Offence) → checked s ≡ k → Converts s (convert_outcome (convert_as s k)) (sheet_after s (convert_as s k))
   unfolding convert_as convert_outcome sheet_after
   converts-so (Ok c) h = laid c h
-  converts-so (Err offence.Size) h = turned_down 1 0 (omega arith) (λ e. omega arith) (λ c g. let z : ◌≡◌ {A = ℕ} 0 1 = cc in omega arith)
-  converts-so (Err (offence.Word p)) h = turned_down 2 p (omega arith) (λ e. omega arith) (λ c g. let z : ◌≡◌ {A = ℕ} 0 1 = cc in omega arith)
-  converts-so (Err (offence.Place p)) h = turned_down 3 p (omega arith) (λ e. omega arith) (λ c g. let z : ◌≡◌ {A = ℕ} 0 1 = cc in omega arith)
-  converts-so (Err (offence.Byte p)) h = turned_down 4 p (omega arith) (λ e. omega arith) (λ c g. let z : ◌≡◌ {A = ℕ} 0 1 = cc in omega arith)
+  converts-so (Err offence.Size) h = turned_down 1 0 (omega arith) (λ e. omega arith) (λ c g. cc)
+  converts-so (Err (offence.Word p)) h = turned_down 2 p (omega arith) (λ e. omega arith) (λ c g. cc)
+  converts-so (Err (offence.Place p)) h = turned_down 3 p (omega arith) (λ e. omega arith) (λ c g. cc)
+  converts-so (Err (offence.Byte p)) h = turned_down 4 p (omega arith) (λ e. omega arith) (λ c g. cc)
 
 -- any outcome and sheet that the call's two equations allow
 pub call_converts : (s : List ℕ) (r : Outcome) (t : List ℕ) → r ≡ convert_outcome (convert s) → t ≡ sheet_after s (convert s) → Converts s r t
