@@ -12,7 +12,7 @@ ghost use Rattle.table.specs.Table.{column, Filled};
 ghost use Rattle.table.specs.Facts.{SameFacts};
 
 use ahead::span_of;
-use rules::{BlockInfo, FormatOptions, Scan, SpanInfo, Start};
+use rules::{BlockInfo, FormatOptions, Scan, SpanInfo};
 
 // Of the open level it matters only whether it is 0.
 fn column_of(level: u32) -> usize
@@ -59,7 +59,7 @@ pub fn build_info(table: &[u32], sheet: &[u8], base: usize, n: usize, i: usize) 
     BlockInfo {
         length: table[at],
         level: 0,
-        start: Start::Nowhere,
+        start: None,
         top_level_token_span: facts / 4,
         has_forbidden_tokens: facts / 2 % 2 == 1,
         has_reserved_tokens: facts % 2 == 1,
