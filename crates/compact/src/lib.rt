@@ -185,25 +185,6 @@ fn write(
     }
 }
 
-// The marks in three lists of words, all zero.
-fn compact_by(
-    sheet: &[u8],
-    out: &mut [u8],
-    c: Counts,
-    bits: &mut [u32],
-    far: &mut [u32],
-    before: &mut [u32],
-) -> Outcome
-    requires sheeted { Sheeted sheet.now c }
-    requires bits_value { (bits.old ≡ replicate 1024 0) × (far.old ≡ replicate 1024 0) × (length before.old ≡ 1024) }
-    ensures value { result ≡ outcome_of (compact_as sheet.now (length out.old) (Ok c)) }
-    ensures out_after { out.new ≡ buffer_with (length out.old) (compact_as sheet.now (length out.old) (Ok c)) }
-{
-    mark_places(bits, far, sheet, c);
-    let kept = marks::settle(bits, far, before);
-    write(sheet, out, c, bits, before, kept)
-}
-
 // Of a sheet that checks 1 to 4 found sound: the outcome in numbers, and the buffer to its last byte.
 pub fn compact(sheet: &[u8], out: &mut [u8], c: Counts) -> Outcome
     requires { Sheeted sheet.now c }
@@ -213,5 +194,7 @@ pub fn compact(sheet: &[u8], out: &mut [u8], c: Counts) -> Outcome
     let mut bits = [0; 1024];
     let mut far = [0; 1024];
     let mut before = [0; 1024];
-    compact_by(sheet, out, c, &mut bits, &mut far, &mut before)
+    mark_places(&mut bits, &mut far, sheet, c);
+    let kept = marks::settle(&mut bits, &far, &mut before);
+    write(sheet, out, c, &bits, &before, kept)
 }

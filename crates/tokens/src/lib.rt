@@ -68,6 +68,7 @@ pub fn packed(kind: u32, class: u32, create: bool) -> u32
 
 // ---- kinds and keys
 
+// A match and no TryFrom: every number has a kind, Join from 16 on.
 #[tactic(auto, unfolding(rules::specs::Words::kind_of, rules::specs::Words::kinds))]
 pub fn kind_of(n: u32) -> TokenKind
     ensures { result ≡ kind_of n }
