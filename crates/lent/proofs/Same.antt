@@ -8,6 +8,7 @@ use native.Mathlib.Omega.{arith}
 use lib.Dec.{ltb}
 use lib.ListN.{length}
 use borrow.Author.Tests.{ltb-true, ltb-false, le-leb}
+use Rattle.std.proofs.lemmas.Option.{none-some, same_Some}
 use Rattle.rules.specs.declared.Place.{Place}
 use Rattle.rules.specs.declared.Counts.{Counts}
 use Rattle.rules.specs.Base.{same, find, nth?}
@@ -16,9 +17,7 @@ use Rattle.rules.specs.Checks.{in_body}
 use Rattle.rules.specs.Sheet.{body_part, list_of, name_of, value_of, param_of, Param as Read, Indexed, Named}
 use Rattle.rules.specs.Params.{by_name, by_number, value_in, value_at, value_from}
 use Rattle.records.specs.Sheeted.{Sheeted}
-use Rattle.params.specs.Found.{number_in}
 use Rattle.params.proofs.FoundLaws.{length-list, nth_in, nth_past}
-use Rattle.params.specs.declared.Entry.{Entry}
 use Rattle.lent.specs.declared.Param.{Param}
 use Rattle.lent.specs.Listed.{found_or, numbered, equals, found_by, named_in}
 use Rattle.lent.specs.Same.{record_at, table}
@@ -30,11 +29,11 @@ and-false false = refl
 -- a number that a search gives is below the list's length
 module _ {A : Type 0} (test : A → Bool) where
   find_below : (xs : List A) (j m : ℕ) → find test j xs ≡ Some m → (j ≤ m) × (m < j + length xs)
-  find_below [] j m e = absurd (none-ne-some m e)
+  find_below [] j m e = absurd (none-some m e)
   find_below (x ∷ xs) j m e = by-test (test x) e (find_below xs (suc j) m)
     where
       by-test : (b : Bool) → (if b then Some j else find test (suc j) xs) ≡ Some m → (find test (suc j) xs ≡ Some m → (suc j ≤ m) × (m < suc j + length xs)) → (j ≤ m) × (m < j + suc (length xs))
-      by-test true h later = let z : j ≡ m = some-injective j m h in (omega arith, omega arith)
+      by-test true h later = let z : j ≡ m = same_Some j m h in (omega arith, omega arith)
       by-test false h later = let r : (suc j ≤ m) × (m < suc j + length xs) = later h in (omega arith, omega arith)
 
 module _ (s : List ℕ) (c : Counts) (own : Place) where
@@ -50,11 +49,11 @@ module _ (s : List ℕ) (c : Counts) (own : Place) where
   -- ---- by number
 
   module _ (i : ℕ) where
-    pub numbered-source : number_in (numbered (table s c) i own).entry ≡ by_number values i
+    pub numbered-source : (numbered (table s c) i own).entry ≡ by_number values i
     unfolding numbered by_number
     numbered-source = rw (length-list (value_of s c) 0 c.params) (by-test (ltb i c.params) refl)
       where
-        by-test : (b : Bool) → ltb i c.params ≡ b → number_in (found_or own i (nth? (table s c) i)).entry ≡ (if b then Some i else None)
+        by-test : (b : Bool) → ltb i c.params ≡ b → (found_or own i (nth? (table s c) i)).entry ≡ (if b then Some i else None)
         by-test true e = rw (nth_in (record_at s c) 0 c.params i (ltb-true _ _ e))
         by-test false e = rw (nth_past (record_at s c) 0 c.params i (ltb-false _ _ e))
 
@@ -98,15 +97,15 @@ module _ (s : List ℕ) (c : Counts) (own : Place) where
           let b = find_below is_it read 0 m e in
           let k : length read ≡ c.params = length-list (param_of s c) 0 c.params in omega arith
 
-      pub named-source : number_in (named_in s c n (table s c) own).entry ≡ by_name read (bytes_at n)
+      pub named-source : (named_in s c n (table s c) own).entry ≡ by_name read (bytes_at n)
       unfolding numbered
       named-source = rw named_by (go (by_name read (bytes_at n)) below)
         where
-          go : (o : Option ℕ) → ((m : ℕ) → o ≡ Some m → m < c.params) → number_in (found_by (table s c) own o).entry ≡ o
+          go : (o : Option ℕ) → ((m : ℕ) → o ≡ Some m → m < c.params) → (found_by (table s c) own o).entry ≡ o
           go None l = refl
           go (Some m) l = rw (nth_in (record_at s c) 0 c.params m (l m refl))
 
-      pub named-bytes : bytes_at (named_in s c n (table s c) own).place ≡ or_else (bytes_at own) (value_from (Named read) (by_name read (bytes_at n)))
+      pub named-bytes : bytes_at (named_in s c n (table s c) own).place ≡ unwrap_or (value_from (Named read) (by_name read (bytes_at n))) (bytes_at own)
       unfolding numbered value_from value_at value_in value_of
       named-bytes = rw named_by (go (by_name read (bytes_at n)) below)
         where
@@ -124,6 +123,6 @@ module _ (s : List ℕ) (c : Counts) (own : Place) where
       find_none [] j = refl
       find_none (p ∷ ps) j = rw (equals-none p.name) (find_none ps (suc j))
 
-      pub named-outside : (ps : List Param) → named_in s c n ps own ≡ record { place = own; entry = Entry.Nothing }
+      pub named-outside : (ps : List Param) → named_in s c n ps own ≡ record { place = own; entry = None }
       unfolding named_in
       named-outside ps = rw (find_none ps 0)

@@ -6,7 +6,6 @@ use Rattle.rules.specs.Base.{same, find, nth?}
 use Rattle.rules.specs.Words.{body_at}
 use Rattle.rules.specs.Checks.{in_body}
 use Rattle.rules.specs.Sheet.{body_part}
-use Rattle.params.specs.declared.Entry.{Entry}
 use Rattle.params.specs.declared.Found.{Found}
 use Rattle.lent.specs.declared.Param.{Param}
 
@@ -21,8 +20,8 @@ no_param = record { name = no_place; value = no_place }
 
 -- record n, or the caller's place where there is none
 abbrev pub found_or : Place → ℕ → Option Param → Found
-found_or own n None = record { place = own; entry = Entry.Nothing }
-found_or own n (Some p) = record { place = p.value; entry = Entry.At n }
+found_or own n None = record { place = own; entry = None }
+found_or own n (Some p) = record { place = p.value; entry = Some n }
 
 unfoldable pub numbered : List Param → ℕ → Place → Found
 numbered ps n own = found_or own n (nth? ps n)
@@ -35,7 +34,7 @@ equals s c p n = in_body p c.bytes && (in_body n c.bytes && same (body_part s (b
 
 -- the record of a number that a search gave
 abbrev pub found_by : List Param → Place → Option ℕ → Found
-found_by ps own None = record { place = own; entry = Entry.Nothing }
+found_by ps own None = record { place = own; entry = None }
 found_by ps own (Some n) = numbered ps n own
 
 -- the first record whose name equals n
