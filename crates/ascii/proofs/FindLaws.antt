@@ -1,32 +1,15 @@
 -- Laws of the first byte of a kind. Assumes nothing.
 use mathlib.Core.Path.{◌≡◌, refl, sym, ap, ◌∙◌}
-use mathlib.Core.Bool.{Bool, true, false, ◌||◌, not}
+use mathlib.Core.Bool.{Bool, true, false, ◌||◌}
 use mathlib.Core.List.{List, [], ◌∷◌, ◌++◌}
 use Prim.Native.Nat.{ℕ, suc, ◌+◌, ◌-◌, ◌≤◌, ◌<◌}
 use native.Mathlib.Omega.{arith}
-use lib.Bits.{bit_or, or_add_and, and_le_l, or_zero_r}
 use lib.Dec.{eqb}
 use lib.ListN.{length, drop, get_or}
 use borrow.Author.Tests.{eq-eqb, ne_eqb, eqb-true}
-use Rattle.std.specs.Prelude.{if◌then◌else◌}
+use Rattle.std.specs.Prelude.{fold}
 use Rattle.ascii.specs.Part.{part, has, before}
-use Rattle.ascii.proofs.PartLaws.{length_part, part-suc, part-next, part_end, part-drop, part-more}
-
-or-false : (p : Bool) → p || false ≡ p
-or-false true = refl
-or-false false = refl
-
-or_true : (p : Bool) → p || true ≡ true
-or_true true = refl
-or_true false = refl
-
--- ---- bytes taken together: `|` is 0 exactly where none is equal
-
-told-by : (all : ℕ) (p e : Bool) → eqb all 0 ≡ not p → eqb (bit_or all (if e then 1 else 0)) 0 ≡ not (p || e)
-told-by all p false h = rw (or_zero_r all, or-false p) h
-told-by all p true h =
-    let o = or_add_and all 1 in
-    rw (or_true p) (ne_eqb (bit_or all 1) 0 (λ z. let k = and_le_l all 1 in absurd (omega arith)))
+use Rattle.ascii.proofs.PartLaws.{length_part, part-next, part_end, part-drop, part-more}
 
 pub has_both : (a b : ℕ) (v w : List ℕ) → has a b (v ++ w) ≡ (has a b v || has a b w)
 has_both a b [] w = refl
@@ -36,16 +19,24 @@ has_both a b (y ∷ ys) w = go (eqb y a || eqb y b) (has_both a b ys w)
     go true f = refl
     go false f = f
 
-pub found-more : (s : List ℕ) (start a b i all m : ℕ) → start + i < length s → eqb all 0 ≡ not (has a b (part s start i))
-    → m ≡ (if eqb (get_or s (start + i) 0) a || eqb (get_or s (start + i) 0) b then 1 else 0) → eqb (bit_or all m) 0 ≡ not (has a b (part s start (i + 1)))
-found-more s start a b i all m h e f =
-    let x = get_or s (start + i) 0 in
-    let k : has a b (part s start i ++ (x ∷ [])) ≡ (has a b (part s start i) || (eqb x a || eqb x b)) = has_both a b (part s start i) (x ∷ []) ∙ rw (or-false (eqb x a || eqb x b)) in
-    rw (part-suc s start i h, k, f) (told-by all (has a b (part s start i)) (eqb x a || eqb x b) e)
+abbrev taken : ℕ → ℕ → Bool → ℕ → Bool
+taken a b all x = all || eqb x a || eqb x b
 
-pub found_all : (all : ℕ) (p : Bool) → eqb all 0 ≡ not p → not (eqb all 0) ≡ p
-found_all all true e = rw e
-found_all all false e = rw e
+taken-true : (a b : ℕ) (v : List ℕ) → fold (taken a b) true v ≡ true
+taken-true a b [] = refl
+taken-true a b (x ∷ xs) = taken-true a b xs
+
+-- the bytes taken together, by `|`
+fold_has : (a b : ℕ) (v : List ℕ) → fold (λ all x. all || eqb x a || eqb x b) false v ≡ has a b v
+fold_has a b [] = refl
+fold_has a b (x ∷ xs) = go (eqb x a || eqb x b) (fold_has a b xs)
+  where
+    go : (c : Bool) → fold (taken a b) false xs ≡ has a b xs → fold (taken a b) c xs ≡ (c || has a b xs)
+    go true f = taken-true a b xs
+    go false f = f
+
+pub by_fold : (a b : ℕ) (v : List ℕ) (r : Bool) → r ≡ fold (λ all x. all || eqb x a || eqb x b) false v → r ≡ has a b v
+by_fold a b v r e = e ∙ fold_has a b v
 
 -- ---- the bytes before it
 
@@ -98,3 +89,5 @@ module _ (s : List ℕ) (start n b i : ℕ) (h : start + n ≤ length s) (e : i 
   by-no-byte c =
       let k : before b (drop i (part s start n)) ≡ 0 = rw (part_end s start n i h c) in
       omega arith
+
+pub ruleset finds = (by-run-none, by-other-byte, by_byte, by-no-byte)
