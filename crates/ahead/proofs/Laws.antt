@@ -46,18 +46,8 @@ pub record Reading (s : List ℕ) (base n i o : ℕ) (a : Scan) (j : ℕ) : Type
   pub small : Small o (j - (i + 1)) a
   pub same_end : scan o (tokens_from s base j (n - j)) a ≡ scan o (here_at s base n i).after (unread o)
 
-pub reading_starts : (s : List ℕ) (base n i o : ℕ) → i < n → Reading s base n i o (unread o) (i + 1)
-reading_starts s base n i o h = record { past = omega arith; up_to = omega arith; small = record { level = omega arith; full-span = omega arith; blocks = omega arith; arguments = omega arith }; same_end = refl }
-
 pub reading_ends : (s : List ℕ) (base n i o : ℕ) (a : Scan) (j : ℕ) → Reading s base n i o a j → n ≤ j → a ≡ scan o (here_at s base n i).after (unread o)
 reading_ends s base n i o a j r l = sym (scan-none o a) ∙ (rw (tokens_none s base j n l) at r.same_end)
-
-pub reading_small : (s : List ℕ) (base n i o : ℕ) (a : Scan) (j : ℕ) → Readable s base n → Reading s base n i o a j → o ≤ 1024 → Small 1024 1024 a
-reading_small s base n i o a j q r h =
-    let f = q.placed.few in
-    let u = r.up_to in
-    let b = r.small in
-    record { level = omega arith; full-span = omega arith; blocks = omega arith; arguments = omega arith }
 
 module _ (s : List ℕ) (base n i o : ℕ) (a : Scan) (j : ℕ) (r : Reading s base n i o a j) (h : j < n) (x : Sort) (b : Bool) (is : x ≡ sort_in (token_of s base j)) (at-stop : b ≡ stops_at o x a.level) where
   left : scan o (token_of s base j ∷ tokens_from s base (j + 1) (n - (j + 1))) a ≡ scan o (here_at s base n i).after (unread o)

@@ -1,18 +1,22 @@
 -- A row that is written is there, and the others are as they were; and it is read as it was written. Assumes nothing.
 use mathlib.Core.Bool.{Bool, true, false}
-use mathlib.Core.Path.{◌≡◌, refl, ap, ◌∙◌}
+use mathlib.Core.Path.{◌≡◌, refl, ap, sym, ◌∙◌}
 use mathlib.Core.List.{List, [], ◌∷◌}
 use Prim.Native.Nat.{ℕ, zero, suc, ◌+◌, ◌-◌, ◌*◌, ◌/◌, ◌%◌, ◌≤◌, ◌<◌}
 use native.Mathlib.Omega.{arith}
 use lib.Dec.{eqb, ltb}
-use lib.ListN.{length, get_or, set, length-set}
+use lib.ListN.{length, get_or, set, length-set, take, drop}
 use lib.Seq.{sets, get_or-set_same, get_or-set_other}
-use borrow.Author.Tests.{eq-eqb, ne_eqb, eqb-true, eqb-false, ltb-true, ltb-false}
+use borrow.Rule.Slice.PartMut.{put_mid}
+use Rattle.std.proofs.Common.{append_assoc}
+use Rattle.std.proofs.lemmas.List.Edits.{sets-eq, paste_all}
+use Rattle.std.proofs.lemmas.Slice.{put_mid-paste}
+use borrow.Author.Tests.{eqb-true, eqb-false, ltb-true, ltb-false}
 use Rattle.table.specs.Table.{word_of}
 use Rattle.table_spans.specs.declared.Rest.{Rest}
 use Rattle.table_spans.specs.declared.Rests.{Rests}
-use Rattle.table_spans.specs.Back.{bit_of, ended, Few, FewRests}
-use Rattle.table_spans.specs.Rows.{counts_of, marks_of, row_words, Holds, with_row, rest_in, row_in, past_in}
+use Rattle.table_spans.specs.Back.{bit_of, Few, FewRests}
+use Rattle.table_spans.specs.Rows.{counts_of, row_words, Holds, with_row, rest_in, row_in}
 
 pub above : (x y : ℕ) → x ≤ y → (y ≡ x → ⊥) → x + 1 ≤ y
 above x y h n = by-eq (eqb y x) refl
@@ -43,15 +47,9 @@ sets_at (a ∷ vs) l i (suc k) h r =
 
 -- ---- a row, written
 
-pub row_put : (t : List ℕ) (i : ℕ) (f : Rests) (a b m : ℕ) → a ≡ counts_of f.inner → b ≡ counts_of f.outer → m ≡ marks_of f
-    → set (set (set (set (set (set t (6 * i) f.inner.full) (6 * i + 1) a) (6 * i + 2) f.outer.full) (6 * i + 3) b) (6 * i + 4) f.total) (6 * i + 5) m ≡ with_row t i f
+pub row_put : (t : List ℕ) (i k : ℕ) (f : Rests) (ys : List ℕ) → k ≡ 6 → 6 * i + 6 ≤ length t → ys ≡ row_words f → put_mid (6 * i) k t ys ≡ with_row t i f
 unfolding with_row
-row_put t i f a b m p q r =
-    let e₁ : 6 * i + 1 ≡ suc (6 * i) = omega arith in
-    let e₂ : 6 * i + 2 ≡ suc (suc (6 * i)) = omega arith in
-    let e₃ : 6 * i + 3 ≡ suc (suc (suc (6 * i))) = omega arith in
-    let e₄ : 6 * i + 4 ≡ suc (suc (suc (suc (6 * i)))) = omega arith in
-    let e₅ : 6 * i + 5 ≡ suc (suc (suc (suc (suc (6 * i))))) = omega arith in rw (e₁, e₂, e₃, e₄, e₅, p, q, r)
+row_put t i k f ys e r p = rw (e, p) (put_mid-paste (6 * i) 6 t (row_words f) (row_words f) 6 refl refl refl ∙ paste_all t (6 * i) (row_words f) 6 refl ∙ sym (sets-eq (row_words f) t (6 * i) r ∙ append_assoc (take (6 * i) t) (row_words f) (drop (6 * i + 6) t)))
 
 module _ (t : List ℕ) (i : ℕ) (f : Rests) where
   pub row-holds : 6 * i + 6 ≤ length t → Holds (with_row t i f) i f
@@ -122,19 +120,3 @@ row_back t i f s h =
   where
     by-fields : (g k : Rests) → g.inner ≡ k.inner → g.outer ≡ k.outer → g.total ≡ k.total → g.others ≡ k.others → g.close ≡ k.close → g ≡ k
     by-fields g k a b c d e = rw (a, b, c, d, e)
-
-pub row_as : (t : List ℕ) (i : ℕ) (u v : Rest) (close : ℕ) → u ≡ rest_in (get_or t (6 * i) 0) (word_of t i 1) (word_of t i 5 / 4096 % 2) → v ≡ rest_in (word_of t i 2) (word_of t i 3) (word_of t i 5 / 2048 % 2)
-    → close ≡ word_of t i 5 % 2048
-    → record { inner = u; outer = v; total = word_of t i 4; others = word_of t i 5 / 8192; close = close } ≡ row_in t i
-unfolding row_in
-row_as t i u v close p q e = let z : 6 * i ≡ 6 * i + 0 = omega arith in rw (p, q, e) (ap (λ (k : ℕ). record { inner = rest_in (get_or t k 0) (word_of t i 1) (word_of t i 5 / 4096 % 2); outer = rest_in (word_of t i 2) (word_of t i 3) (word_of t i 5 / 2048 % 2); total = word_of t i 4; others = word_of t i 5 / 8192; close = word_of t i 5 % 2048 }) z)
-
--- ---- after the close
-
-pub past_end : (t : List ℕ) (n close : ℕ) (r : Rests) → close ≡ n → r ≡ ended n → r ≡ past_in t n close
-unfolding past_in
-past_end t n close r e h = rw (eq-eqb close n e) h
-
-pub past_row : (t : List ℕ) (n close : ℕ) (r : Rests) → (close ≡ n → ⊥) → r ≡ row_in t close → r ≡ past_in t n close
-unfolding past_in
-past_row t n close r e h = rw (ne_eqb close n e) h
