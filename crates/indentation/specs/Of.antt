@@ -7,8 +7,7 @@ use Rattle.rules.specs.Indentation.{is_single, Indentation, PreviousTokens, Clos
 use Rattle.stacks.specs.Stack.{stack, Kept}
 use Rattle.indentation.specs.declared.Previous.{Previous}
 use Rattle.indentation.specs.declared.Indentation.{Indentation as Code}
-use Rattle.indentation.specs.declared.Word.{Word}
-use Rattle.indentation.specs.declared.TopLevel.{TopLevel}
+use Rattle.indentation.specs.declared.TheConstants.{BLOCK, FOLDED_BLOCK}
 use Rattle.indentation.specs.declared.Closed.{Closed as CodeClosed}
 
 unfoldable pub type_of : ℕ → IndentType
@@ -17,13 +16,8 @@ type_of (suc zero) = Block
 type_of (suc (suc k)) = FoldedBlock
 
 unfoldable pub kind_for : Bool → ℕ
-kind_for true = 2
-kind_for false = 1
-
--- the last of n kinds, k, is a top-level one
-unfoldable pub top_in : ℕ → ℕ → Bool
-top_in zero k = false
-top_in (suc n) k = eqb k 0
+kind_for true = FOLDED_BLOCK
+kind_for false = BLOCK
 
 unfoldable pub word_of : ℕ → Option ℕ
 word_of zero = None
@@ -82,14 +76,6 @@ indentation_of i =
 -- the last previous words, or none
 unfoldable pub last_of : Code → Previous
 last_of i = get_or (stack no_previous i.nprevious i.previous) 0 no_previous
-
-unfoldable pub word_in : Word → Option ℕ
-word_in (Word.Token n) = Some n
-word_in Word.Nothing = None
-
-unfoldable pub span_in : TopLevel → Option SpanInfo
-span_in (TopLevel.Span sp) = Some sp
-span_in TopLevel.Nothing = None
 
 -- the top-level entries
 unfoldable pub tops : List IndentType → ℕ
