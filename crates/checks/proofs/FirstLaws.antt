@@ -1,5 +1,5 @@
 -- The first offence of a table's records, found a record at a time.
-use Rattle.std.proofs.Common.{◌≡◌, subst, ℕ, List, [], ◌∷◌, length, take, drop, get_or, zero, suc, ◌+◌, ◌-◌, ◌*◌, ◌<◌, ◌≤◌, sym, ◌∙◌, arith}
+use Rattle.std.proofs.Common.{◌≡◌, subst, ℕ, List, length, take, drop, get_or, zero, suc, ◌+◌, ◌-◌, ◌*◌, ◌<◌, ◌≤◌, sym, ◌∙◌, arith}
 use denote.Param.Members.{Mut}
 use Rattle.std.specs.Prelude.{Option, None, Some, MatchOption, IsTrue}
 use Rattle.std.specs.Option.{option_map, option_or}
@@ -9,10 +9,8 @@ use Rattle.std.specs.declared.ops.Range.{Range}
 use Rattle.std.proofs.iter.Yields.{nat_range_steps}
 use Rattle.std.proofs.iter.runs.Sources.{range_runs}
 use Rattle.std.proofs.lemmas.List.{get_or-take, get_or-drop}
-use Rattle.std.proofs.lemmas.Grind.{common_steps}
 use borrow.Author.Tests.{lt-ltb}
-use lib.Bits.{or_add_and, and_le_l, and_le_r}
-use Rattle.std.specs.Prelude.{fold, bit_or}
+use Rattle.std.specs.Str.{IsAscii}
 use Rattle.checks.proofs.Passes.{next, none_first}
 use Rattle.rules.specs.Checks.{or_later, first_of, body_byte}
 
@@ -68,26 +66,13 @@ pub in_turn : (a b c x y z q r : Option ℕ) → a ≡ x → b ≡ y → c ≡ z
 in_turn None b c x y z q r ea eb ec eq er = cc
 in_turn (Some p) b c x y z q r ea eb ec eq er = rw (er, eq, ← ea)
 
--- bytes below 128 together are so each
-low-each : (xs : List ℕ) (a : ℕ) → fold bit_or a xs < 128 → (a < 128) × ((i : ℕ) → i < length xs → get_or xs i 0 < 128)
-low-each [] a h = (h, λ i l. absurd (omega arith))
-low-each (x ∷ xs) a h =
-    let t = low-each xs (bit_or a x) h in
-    let both = or_add_and a x in
-    (omega (arith, t.0, both, and_le_r a x), each (omega (arith, t.0, both, and_le_l a x)) t.1)
-  where
-    each : x < 128 → ((i : ℕ) → i < length xs → get_or xs i 0 < 128) → (i : ℕ) → i < length (x ∷ xs) → get_or (x ∷ xs) i 0 < 128
-    each h t zero l = h
-    each h t (suc i) l = t i (omega arith)
-
-pub low-none : (s : List ℕ) (from n : ℕ) → from + n ≤ length s → fold bit_or 0 (take (from + n - from) (drop from s)) < 128 → None ≡ first_of (body_byte s) 1 from n
+-- bytes that are all below 128
+pub ascii_none : (s : List ℕ) (from n : ℕ) → from + n ≤ length s → IsAscii (take (from + n - from) (drop from s)) → None ≡ first_of (body_byte s) 1 from n
 unfolding body_byte
-low-none s from n fit h =
+ascii_none s from n fit h =
     let m = from + n - from in
-    let t = (low-each (take m (drop from s)) 0 h).1 in
     sym (none_first (body_byte s) 1 from n (λ i l.
     let at : from + 1 * i ≡ from + i = omega arith in
     let within : i < m = omega arith in
-    let long : i < length (take m (drop from s)) = grind (arith, common_steps) in
-    let low : get_or s (from + i) 0 < 128 = rw (get_or-take m (drop from s) i 0 within, get_or-drop from s i 0) at (t i long) in
+    let low : get_or s (from + i) 0 < 128 = rw (get_or-take m (drop from s) i 0 within, get_or-drop from s i 0) at (h i) in
     rw (at, lt-ltb _ _ low)))

@@ -1,7 +1,7 @@
 // Checks 1 to 4 of a sheet.
 #![tactic(auto)]
 
-ghost use Rattle.std.specs.Prelude.{◌≡◌, ◌+◌, ◌*◌, ◌≤◌, fold, bit_or, length};
+ghost use Rattle.std.specs.Prelude.{◌≡◌, ◌+◌, ◌*◌, ◌≤◌, length};
 ghost use Rattle.std.specs.Bool.{OnTrue};
 ghost use Rattle.rules.specs.Words.{keeps_at, body_at};
 ghost use Rattle.rules.specs.Checks.{first_of, counts_fit, sizes, words, places, body_byte, checked};
@@ -65,18 +65,13 @@ fn check_places(s: &[u8], c: Counts) -> Option<usize>
     tokens.or(params).or(keeps)
 }
 
-// The bytes together, below 128 only where each is: with no branch for each byte, many are passed at a time.
-fn together(bytes: &[u8]) -> u8
-    ensures { result ≡ fold bit_or 0 bytes.now }
-{
-    bytes.iter().fold(0, |all, b| all | *b)
-}
-
+#[tactic(auto, using(crate::proofs::FirstLaws::ascii_none))]
 fn check_bytes(s: &[u8], from: usize, n: usize) -> Option<usize>
     requires { from + n ≤ length s.now }
     ensures { result ≡ first_of (body_byte s.now) 1 from n }
 {
-    if together(&s[from..from + n]) < 128 {
+    // Sound bodies are passed many bytes at a time.
+    if s[from..from + n].is_ascii() {
         return None;
     }
     (0..n).find_map(|i| offences::body_byte(s, from + i))
