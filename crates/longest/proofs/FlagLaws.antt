@@ -12,7 +12,7 @@ use lib.Pow.{pow_pos, shr-shr}
 use lib.Seq.{get_or-set_same, get_or-set_other}
 use borrow.Author.Count.{below_more}
 use borrow.Author.Tests.{eqb-true, ltb-true, ltb-false}
-use Rattle.std.specs.Prelude.{if◌then◌else◌}
+use mir.Val.{bool_byte as from_bool}
 use Rattle.ascii.specs.Part.{part, has}
 use Rattle.ascii.proofs.PartLaws.{part-cons}
 use Rattle.marks.specs.Marks.{bit_at}
@@ -35,10 +35,10 @@ next_bit b e i h =
     let m : (b + b + e) / 2 ^ (1 + i) ≡ b / 2 ^ i = sym (shr-shr (b + b + e) 1 i) ∙ ap (λ (x : ℕ). x / 2 ^ i) k in
     rw (z, m)
 
-told-one : (x e : ℕ) → e ≡ (if eqb x 10 then 1 else 0) → eqb e 1 ≡ eqb x 10
+told-one : (x e : ℕ) → e ≡ from_bool (eqb x 10) → eqb e 1 ≡ eqb x 10
 told-one x e f = rw f (go (eqb x 10))
   where
-    go : (b : Bool) → eqb (if b then 1 else 0) 1 ≡ b
+    go : (b : Bool) → eqb (from_bool b) 1 ≡ b
     go true = refl
     go false = refl
 
@@ -64,16 +64,16 @@ has_room d at far (suc k) v h s =
     let p : (v + 1) * 2 * 1 ≤ (v + 1) * 2 * 2 ^ k = mul-le-mul_left ((v + 1) * 2) (pow_pos k) in
     omega arith
 
-pub one_more : (d : List ℕ) (at far k v e : ℕ) → 0 < k → Some d at far k v → e ≡ (if eqb (get_or d (at + (k - 1) * far) 0) 10 then 1 else 0) → e ≤ 1 → Some d at far (k - 1) (v + v + e)
+pub one_more : (d : List ℕ) (at far k v e : ℕ) → 0 < k → Some d at far k v → e ≡ from_bool (eqb (get_or d (at + (k - 1) * far) 0) 10) → e ≤ 1 → Some d at far (k - 1) (v + v + e)
 one_more d at far zero v e h s f g = absurd (omega arith)
 one_more d at far (suc k) v e h s f g =
     let z : suc k - 1 ≡ k = omega arith in
     let x : (v + v + e + 1) * 2 ^ k ≤ (v + 1) * 2 * 2 ^ k = mul-le-mul_right (2 ^ k) (omega arith) in
     let y : (v + 1) * 2 * 2 ^ k ≤ 256 = rw (doubled v k) at s.fits in
-    let o : e ≡ (if eqb (get_or d (at + k * far) 0) 10 then 1 else 0) = rw z at f in
+    let o : e ≡ from_bool (eqb (get_or d (at + k * far) 0) 10) = rw z at f in
     rw z (record { fits = omega arith; told = told o })
   where
-    told : e ≡ (if eqb (get_or d (at + k * far) 0) 10 then 1 else 0) → (i : ℕ) → i + k < 8 → bit_at (v + v + e) i ≡ eqb (get_or d (at + (i + k) * far) 0) 10
+    told : e ≡ from_bool (eqb (get_or d (at + k * far) 0) 10) → (i : ℕ) → i + k < 8 → bit_at (v + v + e) i ≡ eqb (get_or d (at + (i + k) * far) 0) 10
     told o zero l = let n : 0 + k ≡ k = omega arith in rw n (first_bit v e g ∙ told-one (get_or d (at + k * far) 0) e o)
     told o (suc i) l = let n : suc i + k ≡ i + suc k = omega arith in rw n (next_bit v e i g ∙ s.told i (omega arith))
 
@@ -173,7 +173,7 @@ full (suc (suc (suc (suc (suc (suc zero)))))) l = refl
 full (suc (suc (suc (suc (suc (suc (suc zero))))))) l = refl
 full (suc (suc (suc (suc (suc (suc (suc (suc i)))))))) l = absurd (omega arith)
 
-same_byte : (x c : ℕ) → bit_xor x c ≡ 0 → x ≡ c
+pub same_byte : (x c : ℕ) → bit_xor x c ≡ 0 → x ≡ c
 same_byte x c e = let o = xor_add_and x c in let p = and_le_l x c in let q = and_le_r x c in omega arith
 
 pub by-set : (l : List ℕ) (j by unset : ℕ) → (unset ≡ 0 → AllSet l j by) → bit_or unset (bit_xor (bit_or (get_or l j 0) (get_or l (j + by) 0)) 255) ≡ 0 → AllSet l (j + 1) by

@@ -259,11 +259,11 @@ pub best_grows : (b : ℕ) (m r : Measure) (v : List ℕ) → b ≤ m.best → r
 best_grows b m r v h e = rw e (let f = (best_free m.at m.best v).1 in omega (arith, f))
 
 -- both numbers of all parts
-pub all-counted : (n : ℕ) (m from : Measure) (v : List ℕ) → n ≡ line_feeds v → m ≡ measure from v → record { feeds = n; at = m.at; best = m.best } ≡ counted_of from v
+pub all-counted : (n : ℕ) (m from : Measure) (v : List ℕ) → n ≡ line_feeds v → m ≡ measure from v → record { feeds = n; columns = m } ≡ counted_of from v
 all-counted n m from v e f = rw (e, f)
 
 -- the columns of what is counted
-pub by-counted : (s : Counts) (from : Measure) (v : List ℕ) → s ≡ counted_of from v → record { at = s.at; best = s.best } ≡ measure from v
+pub by-counted : (s : Counts) (from : Measure) (v : List ℕ) → s ≡ counted_of from v → s.columns ≡ measure from v
 by-counted s from v e = rw e
 
 -- the first bytes by parts, the others after them
