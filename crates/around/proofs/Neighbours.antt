@@ -119,3 +119,7 @@ module _ (s : List ℕ) (base n i : ℕ) where
   pub white_after : 2 < n - i → white_then_no_operator (here_at s base n i) ≡ (is (token_at s (i + 1)).kind kind.Whitespace && not (is (token_at s (i + 2)).kind kind.Operator))
   unfolding white_then_no_operator kind_is
   white_after l = let m : i + 2 < n = omega arith in rw (after_two m)
+
+pub ruleset backward = (nearest, white_back, none_before)
+
+pub ruleset onward = (next, white_on, none_after)

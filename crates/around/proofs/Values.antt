@@ -67,3 +67,5 @@ module _ (s : List ℕ) (base i : ℕ) (w : Within s base i) where
   pub feed_found : any_of (eqb 10) (token_of s base i).value ≡ ltb (before 10 (take (token_at s i).value.len (drop (base + (token_at s i).value.start) s))) (token_at s i).value.len
   unfolding body_part
   feed_found = sym (before_feed (token_of s base i).value) ∙ ap (ltb (before 10 (token_of s base i).value)) value_length
+
+pub ruleset one = (value_inside, no_byte, one_byte)

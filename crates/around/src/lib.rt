@@ -26,7 +26,7 @@ pub fn value_len(sheet: &[u8], base: usize, i: usize) -> u32
 }
 
 // The value is the one byte b.
-#[tactic(auto, using(crate::proofs::Values::value_inside, crate::proofs::Values::no_byte, crate::proofs::Values::one_byte))]
+#[tactic(auto, using(crate::proofs::Values::one))]
 pub fn is_byte(sheet: &[u8], base: usize, i: usize, b: u8) -> bool
     requires { Within sheet.now base i }
     ensures { result ≡ same (token_of sheet.now base i).value (b ∷ []) }
@@ -64,7 +64,7 @@ pub fn previous_token(sheet: &[u8], base: usize, n: usize, i: usize) -> Option<T
     Some(kind_at(sheet, i - 1))
 }
 
-#[tactic(auto, using(crate::proofs::Neighbours::nearest, crate::proofs::Neighbours::white_back, crate::proofs::Neighbours::none_before))]
+#[tactic(auto, using(crate::proofs::Neighbours::backward))]
 pub fn previous_non_whitespace_token(
     sheet: &[u8],
     base: usize,
@@ -84,7 +84,7 @@ pub fn previous_non_whitespace_token(
     None
 }
 
-#[tactic(auto, using(crate::proofs::Neighbours::next, crate::proofs::Neighbours::white_on, crate::proofs::Neighbours::none_after))]
+#[tactic(auto, using(crate::proofs::Neighbours::onward))]
 pub fn next_non_whitespace_token(sheet: &[u8], base: usize, n: usize, i: usize) -> Option<TokenKind>
     requires readable { Readable sheet.now base n }
     requires i_lt_n { i < n }

@@ -33,3 +33,5 @@ module _ (s : List ℕ) (c : Counts) (v : List ℕ) where
 
       pub keep_on : same v (keep_of s c i) ≡ false → kept_from i ≡ kept_from (i + 1)
       keep_on t = rw (list_next (keep_of s c) i c.keeps h, t)
+
+pub ruleset kept = (all_left, read_keep, none_left, keep_here, keep_on)

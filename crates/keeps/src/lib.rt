@@ -13,7 +13,7 @@ use places::same_places;
 use records::{body_at, keep_at};
 use rules::{Case, Counts, Place};
 
-#[tactic(auto, using(crate::proofs::Laws::all_left, crate::proofs::Laws::read_keep, crate::proofs::Laws::none_left, crate::proofs::Laws::keep_here, crate::proofs::Laws::keep_on))]
+#[tactic(auto, using(crate::proofs::Laws::kept))]
 pub fn is_keep(sheet: &[u8], c: Counts, p: Place) -> bool
     requires { (Sheeted sheet.now c) × (Inside sheet.now (body_at c) p) }
     ensures { result ≡ any_of (same (body_part sheet.now (body_at c) p)) (keeps_of sheet.now c) }

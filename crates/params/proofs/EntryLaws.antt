@@ -41,3 +41,5 @@ module _ (s : List ℕ) (c : Counts) (n : List ℕ) where
       pub named_on : has_name s c n i ≡ false → named_from i ≡ named_from (i + 1)
       unfolding first_from
       named_on t = let e : c.params - i ≡ suc (c.params - (i + 1)) = omega arith in rw (e, t, add-one)
+
+pub ruleset by_name = (all_left, read_name, none_left, named_here, named_on)

@@ -51,7 +51,7 @@ fn mode_of(sheet: &[u8]) -> Mode
 
 // ---- Named
 
-#[tactic(auto, using(crate::proofs::EntryLaws::all_left, crate::proofs::EntryLaws::read_name, crate::proofs::EntryLaws::none_left, crate::proofs::EntryLaws::named_here, crate::proofs::EntryLaws::named_on))]
+#[tactic(auto, using(crate::proofs::EntryLaws::by_name))]
 fn find_by_name(sheet: &[u8], c: Counts, name: Place) -> Option<usize>
     requires { (Sheeted sheet.now c) × (Inside sheet.now (body_at c) name) }
     ensures { result ≡ entry_named sheet.now c (body_part sheet.now (body_at c) name) }
