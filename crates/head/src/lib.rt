@@ -1,7 +1,7 @@
 // Two heads: the default one, and the Rust's.
 #![tactic(auto)]
 
-ghost use Rattle.std.specs.Prelude.{◌≡◌, length, replicate};
+ghost use Rattle.std.specs.Prelude.{◌≡◌, length};
 ghost use Rattle.head.specs.Head.{head_with, default_head, rust_head, head_written, head_returned};
 
 // What the heads share: all but word 11. Only the bytes that are not zero in both are stored after the clearing.
