@@ -622,6 +622,9 @@ module _ (i : Code) (c : Clean i) where
   unfolding last_of previous_top_level_reserved indentation_of
   by_top_level = sym (last-top-level (stack no_previous i.nprevious i.previous))
 
+  pub by-top-level-in : (p : Previous) (v : Option SpanInfo) → p ≡ last_of i → v ≡ top_of p.marks (top_span p) → v ≡ previous_top_level_reserved (indentation_of i)
+  by-top-level-in p v e h = h ∙ (rw (← e) at by_top_level)
+
   reserved-told : word_of (last_of i).word ≡ previous_reserved (indentation_of i)
   unfolding last_of previous_reserved indentation_of
   reserved-told = sym (last-reserved (stack no_previous i.nprevious i.previous))
