@@ -5,7 +5,6 @@ use Rattle.std.specs.Prelude.{Option, None, Some, ℕ}
 use mathlib.Core.List.{List}
 use Prim.Native.Nat.{ℕ, ◌+◌, ◌≤◌, ◌<◌}
 use native.Mathlib.Omega.{arith}
-use lib.Dec.{ltb}
 use lib.ListN.{length}
 use Rattle.rules.specs.declared.Case.{Case}
 use Rattle.rules.specs.declared.Place.{Place}
@@ -22,9 +21,7 @@ use Rattle.ascii.specs.Part.{part as bytes}
 use Rattle.text.specs.Held.{text_of, Laid}
 use Rattle.text.specs.declared.Text.{Text as CodeText}
 use Rattle.tokens.specs.Placed.{Inside}
-use Rattle.indentation.specs.Of.{no_span, span_in, indentation_of, Stands}
-use Rattle.indentation.specs.declared.TopLevel.{TopLevel}
-use Rattle.indentation.specs.declared.TopLevel.TheVariants as top
+use Rattle.indentation.specs.Of.{indentation_of, Stands}
 use Rattle.indentation.specs.declared.Indentation.{Indentation as Stacks}
 use Rattle.inline_block.specs.Of.{inline_block_of}
 use Rattle.query.specs.Query
@@ -97,50 +94,12 @@ inlined-is false o i = refl
 inlined-is true None i = refl
 inlined-is true (Some sp) i = refl
 
-pub by-nothing : (b : Bool) (last : TopLevel) → b ≡ true → last ≡ top.Nothing → false ≡ (b && inlined_last (span_in last))
-unfolding inlined_last span_in
-by-nothing b last h e = rw (h, e)
-
-pub by-some : (b : Bool) (last : TopLevel) (sp : SpanInfo) → b ≡ true → last ≡ top.Span sp → not sp.newline_after ≡ (b && inlined_last (span_in last))
-unfolding inlined_last span_in
-by-some b last sp h e = rw (h, e)
-
-pub by-no-break : (b : Bool) (last : TopLevel) → b ≡ false → false ≡ (b && inlined_last (span_in last))
-by-no-break b last h = rw h
-
-pub span_none : (last : TopLevel) → last ≡ top.Nothing → no_span ≡ or_no_span (span_in last)
-unfolding or_no_span span_in
-span_none last e = rw e
-
-pub span-some : (last : TopLevel) (sp : SpanInfo) → last ≡ top.Span sp → sp ≡ or_no_span (span_in last)
-unfolding or_no_span span_in
-span-some last sp e = rw e
-
-pub six-none : (last : TopLevel) (b : Bool) → last ≡ top.Nothing → false ≡ six_in (span_in last) b
-unfolding six_in span_in
-six-none last b e = rw e
-
-pub six-broken : (last : TopLevel) (b : Bool) (sp : SpanInfo) → last ≡ top.Span sp → sp.newline_after ≡ true → false ≡ six_in (span_in last) b
-unfolding six_in span_in
-six-broken last b sp e h = rw (e, h)
-
-pub six-inlined : (last : TopLevel) (b : Bool) (sp : SpanInfo) → last ≡ top.Span sp → sp.newline_after ≡ false → b ≡ six_in (span_in last) b
-unfolding six_in span_in
-six-inlined last b sp e h = rw (e, h)
-
-pub by-indented : (i : Stacks) (breaks : Bool) (n : ℕ) (last : TopLevel) (b : Bool) (sp : SpanInfo) (to noted : Stacks) (f six : Bool) (level : ℕ) → span_in last ≡ previous_top_level_reserved (indentation_of i)
-    → b ≡ (breaks && inlined_last (span_in last)) → sp ≡ or_no_span (span_in last) → Stands (when b (increase_top_level sp) (indentation_of i)) to → Stands (set_previous_reserved n (indentation_of to)) noted → f ≡ full (indentation_of i).indent_types → six ≡ six_in (span_in last) f
+pub by-indented : (i : Stacks) (breaks : Bool) (n : ℕ) (last : Option SpanInfo) (b : Bool) (sp : SpanInfo) (to noted : Stacks) (f six : Bool) (level : ℕ) → last ≡ previous_top_level_reserved (indentation_of i)
+    → b ≡ (breaks && inlined_last last) → sp ≡ or_no_span last → Stands (when b (increase_top_level sp) (indentation_of i)) to → Stands (set_previous_reserved n (indentation_of to)) noted → f ≡ full (indentation_of i).indent_types → six ≡ six_in last f
     → (level ≡ indent_level false (indentation_of to)) × (level ≤ 128) → Indented (indentation_of i) breaks n (record { six = six; level = level; stacks = noted })
 by-indented i breaks n last b sp to noted f six level hl hb hp ht hn hf hs hv =
     let e : indentation_of to ≡ indented_in breaks (indentation_of i) = ht.is ∙ rw (hb, hp, inlined-is, hl) in
     record { six = hs ∙ rw (hl, hf); level = hv.0 ∙ rw e; low = hv.1; stands = rw (← e) hn }
-
-pub by_over : (limit : Option ℕ) (most n : ℕ) → limit ≡ limits.Some most → ltb most n ≡ over_limit limit n
-unfolding over_limit
-by_over limit most n e = rw e
-
-pub by-breaks : (comment active b : Bool) (limit : Option ℕ) (n : ℕ) → comment ≡ false → active ≡ false → b ≡ over_limit limit n → b ≡ (comment || not active && over_limit limit n)
-by-breaks comment active b limit n p q e = e ∙ rw (p, q)
 
 -- ---- the word
 
