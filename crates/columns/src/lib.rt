@@ -80,6 +80,7 @@ pub fn passed(m: Measure, run: usize) -> Measure
 }
 
 // A number of tabs; none are looked for unless the line `goes on` in tabs.
+// Not one function with `plain_run`: with a closure for the test both laws stay, and a contract for the closure comes to them.
 fn tab_run(text: &[u8], start: usize, n: usize, goes_on: bool) -> usize
     requires { start + n ≤ length text.now }
     ensures { (result ≤ n) × (part text.now start result ≡ tabs result) }
@@ -95,6 +96,7 @@ fn tab_run(text: &[u8], start: usize, n: usize, goes_on: bool) -> usize
     16 * (n / 16)
 }
 
+#[tactic(auto, using(crate::proofs::MeasureLaws::by_tabbed))]
 fn tabbed(m: Measure, run: usize) -> Measure
     requires { m.at + 8 * run < 2 ^ 63 }
     ensures { result ≡ measure m (tabs run) }
@@ -117,6 +119,7 @@ pub fn by_columns(text: &[u8], start: usize, n: usize, from: Measure) -> Measure
 {
     let mut m = from;
     let mut i = 0;
+    // Steps of no fixed length: a `while`.
     while 8 <= n - i {
         let eight = measured(text, start + i, 8, m);
         i += 8;

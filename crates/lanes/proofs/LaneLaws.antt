@@ -1,9 +1,8 @@
 -- Laws of a lane of codes: a column that stays in eight bits is counted as it should. Assumes nothing.
 use mathlib.Core.Path.{◌≡◌, refl, ap, ◌∙◌}
 use mathlib.Core.List.{List, [], ◌∷◌}
-use Prim.Native.Nat.{ℕ, ◌+◌, ◌*◌, ◌%◌, ◌<◌}
+use Prim.Native.Nat.{ℕ, ◌+◌, ◌*◌, ◌<◌}
 use native.Mathlib.Omega.{arith}
-use lib.Bits.{bit_and, and_mask}
 use lib.ListN.{length}
 use Rattle.rules.specs.Text.{column_after}
 use Rattle.columns.specs.declared.Measure.{Measure}
@@ -14,9 +13,6 @@ use Rattle.steps.proofs.StepLaws.{on-code}
 use Rattle.narrow.specs.declared.Lane.{Lane}
 use Rattle.narrow.specs.Narrow.{lane_on}
 use Rattle.narrow.proofs.NarrowLaws.{to}
-
-pub low-three : (x : ℕ) → bit_and x 7 ≡ x % 8
-low-three x = and_mask x 3
 
 abbrev pub counted : Lane → Measure
 counted m = count m.at m.top

@@ -53,13 +53,13 @@ by-mark d start i f g t h m e =
     let x = get_or d (start + i) 0 in
     rw (part-suc d start i h) (marked-both (part d start i) (x ∷ []) f g t (eqb x 9) m (marked-byte x g e))
 
-pub by-block : (d : List ℕ) (start i k f : ℕ) (t : Bool) (m : Marks) → Marked (part d start i) (record { feeds = f; tab = t }) → Marked (part d (start + i) k) m
+pub by_block : (d : List ℕ) (start i k f : ℕ) (t : Bool) (m : Marks) → Marked (part d start i) (record { feeds = f; tab = t }) → Marked (part d (start + i) k) m
     → Marked (part d start (i + k)) (record { feeds = f + m.feeds; tab = t || m.tab })
-by-block d start i k f t m a b = rw (part-more d start i k) (marked-both (part d start i) (part d (start + i) k) f m.feeds t m.tab a b)
+by_block d start i k f t m a b = rw (part-more d start i k) (marked-both (part d start i) (part d (start + i) k) f m.feeds t m.tab a b)
 
-pub by-last-block : (d : List ℕ) (start n i f : ℕ) (t : Bool) (m : Marks) → i ≤ n → Marked (part d start i) (record { feeds = f; tab = t }) → Marked (part d (start + i) (n - i)) m
+pub by_last_block : (d : List ℕ) (start n i f : ℕ) (t : Bool) (m : Marks) → i ≤ n → Marked (part d start i) (record { feeds = f; tab = t }) → Marked (part d (start + i) (n - i)) m
     → Marked (part d start n) (record { feeds = f + m.feeds; tab = t || m.tab })
-by-last-block d start n i f t m h a b = let e : i + (n - i) ≡ n = omega arith in rw e at (by-block d start i (n - i) f t m a b)
+by_last_block d start n i f t m h a b = let e : i + (n - i) ≡ n = omega arith in rw e at (by_block d start i (n - i) f t m a b)
 
 -- ---- the size
 
@@ -69,9 +69,6 @@ lines-some (x ∷ xs) h = sym (add-one _)
 
 size : ℕ → ℕ → Size
 size n w = record { lines = n; width = w }
-
-pub by-no-size : (d : List ℕ) (len : ℕ) → len ≡ 0 → record { lines = 0; width = 0 } ≡ size_of (take len d)
-by-no-size d len z = rw z
 
 -- the lines of i bytes, and those of k more
 pub by-more-lines : (d : List ℕ) (i k n g : ℕ) → g ≡ line_feeds (part d i k) → n ≡ line_feeds (take i d) + 1 → n + g ≡ line_feeds (take (i + k) d) + 1
@@ -123,8 +120,8 @@ no-feed (x ∷ xs) h = go (eqb x 10) (no-feed xs) h
     go false f h = f h
 
 module _ (v : List ℕ) (m : Marks) (k : Marked v m) (t : m.tab ≡ false) where
-  pub no-tab : has 9 9 v ≡ false
-  no-tab = sym k.seen ∙ t
+  pub no_tab : has 9 9 v ≡ false
+  no_tab = sym k.seen ∙ t
 
-  pub no-mark : m.feeds ≡ 0 → has 9 10 v ≡ false
-  no-mark f = has_either 9 10 v no-tab (no-feed v (sym k.counted ∙ f))
+  pub no_mark : m.feeds ≡ 0 → has 9 10 v ≡ false
+  no_mark f = has_either 9 10 v no_tab (no-feed v (sym k.counted ∙ f))

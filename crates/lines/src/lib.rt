@@ -68,6 +68,7 @@ fn all_marks(text: &[u8], start: usize, n: usize) -> Marks
 // ---- without tabs a column is a byte
 
 // The longest line, `at` bytes of the first standing before.
+#[tactic(auto, using(crate::proofs::StretchLaws::by_known, crate::proofs::StretchLaws::by_one_line, crate::proofs::StretchLaws::by_more))]
 fn longest_from(text: &[u8], start: usize, n: usize, m: Measure) -> usize
     requires { (start + n ≤ length text.now) × (m.at + n < 2 ^ 63) }
     ensures { result ≡ longest_from m.at m.best (part text.now start n) }
@@ -88,6 +89,7 @@ fn longest_from(text: &[u8], start: usize, n: usize, m: Measure) -> usize
     longest_line(text, start + first + 1, n - first - 1, best)
 }
 
+#[tactic(auto, using(crate::proofs::StretchLaws::by_no_feed, crate::proofs::StretchLaws::by_lines, crate::proofs::StretchLaws::by_past))]
 fn without_tabs(text: &[u8], start: usize, n: usize, m: Measure) -> Measure
     requires n_in_bounds { (start + n ≤ length text.now) × (m.at ≤ m.best) × (m.at + n < 2 ^ 63) }
     requires n_value { has 9 9 (part text.now start n) ≡ false }
@@ -112,6 +114,7 @@ fn with_tabs(text: &[u8], start: usize, n: usize, from: Measure) -> Measure
 {
     let mut m = from;
     let mut i = 0;
+    // Steps of no fixed length: a `while`.
     while i < n {
         let tab = find(text, start + i, n - i, 9);
         if tab < 1024 {
@@ -144,6 +147,7 @@ fn stretch(text: &[u8], start: usize, n: usize, k: Marks, m: Measure) -> Measure
 }
 
 // The last one: nobody asks for the column at its end.
+#[tactic(auto, using(crate::proofs::StretchLaws::by_last_lines, crate::proofs::MarkLaws::no_tab))]
 fn last_stretch(text: &[u8], start: usize, n: usize, k: Marks, m: Measure) -> usize
     requires n_in_bounds { (start + n ≤ length text.now) × (m.at ≤ m.best) × (m.at + 8 * n < 2 ^ 63) }
     requires marked { Marked (part text.now start n) k }
@@ -185,7 +189,7 @@ pub fn lines_width(text: &[u8], len: usize) -> Size
     let mut i = 0;
     let mut tab = false;
     // 22 blocks of marks: so short that they are still near when they are read again, and longer than a page of memory, so that the
-    // next bytes are fetched while these are counted. Any length gives the same numbers.
+    // next bytes are fetched while these are counted. Any length gives the same numbers. Steps of no fixed length: a `while`.
     while 4224 < len - i {
         if let Some(far) = close(text, i, len - i, tab) {
             let s = sixteen(text, i, far, m);

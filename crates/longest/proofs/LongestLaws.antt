@@ -104,8 +104,8 @@ pub passed_none : (d : List ℕ) (start n best : ℕ) → Passed d start n best 
 passed_none d start n best = record { within = omega arith; kept = refl }
 
 module _ (d : List ℕ) (start n best : ℕ) (h : start + n ≤ length d) where
-  pub passed-rest : n ≤ best → Passed d start n best n
-  passed-rest c =
+  pub passed_rest : n ≤ best → Passed d start n best n
+  passed_rest c =
       let l = length_part d start n h in
       let m : max 0 best ≡ best = omega arith in
       record { within = omega arith; kept = rw (part_end d start n n h (omega arith), m) (sym (rest (part d start n) 0 best (omega arith))) }
@@ -173,13 +173,13 @@ module _ (d : List ℕ) (start n : ℕ) (h : start + n ≤ length d) where
 -- ---- the loop
 
 module _ (d : List ℕ) (start n known i best : ℕ) (s : longest_from 0 best (drop i (part d start n)) ≡ longest_from 0 known (part d start n)) where
-  pub by-run : (r : ℕ) → Passed d (start + i) (n - i) best r → longest_from 0 best (drop (i + r) (part d start n)) ≡ longest_from 0 known (part d start n)
-  by-run r p =
+  pub by_run : (r : ℕ) → Passed d (start + i) (n - i) best r → longest_from 0 best (drop (i + r) (part d start n)) ≡ longest_from 0 known (part d start n)
+  by_run r p =
       let a = part-drop d start n i in
       ap (longest_from 0 best) (sym (drop-drop r i (part d start n)) ∙ ap (drop r) a) ∙ p.kept ∙ ap (longest_from 0 best) (sym a) ∙ s
 
-  pub by-line : (l m : ℕ) → l ≡ before 10 (part d (start + i) (n - i)) → m ≡ max l best → longest_from 0 m (drop (i + (l + 1)) (part d start n)) ≡ longest_from 0 known (part d start n)
-  by-line l m e f =
+  pub by_line : (l m : ℕ) → l ≡ before 10 (part d (start + i) (n - i)) → m ≡ max l best → longest_from 0 m (drop (i + (l + 1)) (part d start n)) ≡ longest_from 0 known (part d start n)
+  by_line l m e f =
       let v = drop i (part d start n) in
       let a : l ≡ before 10 v = e ∙ ap (before 10) (sym (part-drop d start n i)) in
       let b : max l best ≡ max (0 + before 10 v) best = omega arith in

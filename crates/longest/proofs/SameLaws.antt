@@ -37,6 +37,6 @@ fold-same b (x ∷ xs) all =
 pub by-fold : (d : List ℕ) (start n b all : ℕ) → start + n ≤ length d → all ≡ fold (λ (a x : ℕ). bit_or a (bit_xor x b)) 0 (part d start n) → eqb all 0 ≡ same (part d start n) (replicate n b)
 by-fold d start n b all h e = ap (λ (k : ℕ). eqb k 0) e ∙ fold-same b (part d start n) 0 ∙ ap (λ (k : ℕ). same (part d start n) (replicate k b)) (length_part d start n h)
 
-pub by-more-same : (d : List ℕ) (start b i k : ℕ) (c : Bool) → c ≡ same (part d (start + i) k) (replicate k b) → c ≡ true → part d start i ≡ replicate i b → part d start (i + k) ≡ replicate (i + k) b
-by-more-same d start b i k c e f g =
-    part-more d start i k ∙ ap₂ (λ (v w : List ℕ). v ++ w) g (same_true (part d (start + i) k) (replicate k b) (sym e ∙ f)) ∙ replicate-append-replicate i k b
+pub by_more_same : (d : List ℕ) (start b i j k : ℕ) (c : Bool) → j ≡ i + k → c ≡ same (part d (start + i) k) (replicate k b) → c ≡ true → part d start i ≡ replicate i b → part d start j ≡ replicate j b
+by_more_same d start b i j k c z e f g =
+    rw z (part-more d start i k ∙ ap₂ (λ (v w : List ℕ). v ++ w) g (same_true (part d (start + i) k) (replicate k b) (sym e ∙ f)) ∙ replicate-append-replicate i k b)

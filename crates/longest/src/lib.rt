@@ -85,6 +85,7 @@ fn reached(to: &mut [u8], n: usize, w: usize) -> usize
 }
 
 // Whether of n bytes each flag is set, in the byte or in the one `by` on.
+#[tactic(auto, using(crate::proofs::FlagLaws::by_set))]
 fn all_flagged(flagged: &[u8], n: usize, by: usize) -> bool
     requires { n + by ≤ length flagged.now }
     ensures { result ≡ true → AllSet flagged.now n by }
@@ -134,6 +135,7 @@ pub fn past_last(text: &[u8], start: usize, n: usize) -> usize
 
 // ---- the whole
 
+#[tactic(auto, using(crate::proofs::LongestLaws::passed_rest, crate::proofs::LongestLaws::by_last))]
 fn passed_lines(text: &[u8], start: usize, n: usize, best: usize) -> usize
     requires { start + n ≤ length text.now }
     ensures { Passed text.now start n best result }
@@ -144,12 +146,14 @@ fn passed_lines(text: &[u8], start: usize, n: usize, best: usize) -> usize
     past_last(text, start, best + 1)
 }
 
+#[tactic(auto, using(crate::proofs::LongestLaws::by_run, crate::proofs::LongestLaws::by_line, crate::proofs::LongestLaws::by_end))]
 pub fn longest_line(text: &[u8], start: usize, n: usize, known: usize) -> usize
     requires { (start + n ≤ length text.now) × (n < 2 ^ 63) }
     ensures { result ≡ longest_from 0 known (part text.now start n) }
 {
     let mut best = known;
     let mut i = short_lines(text, start, n, known);
+    // Steps of no fixed length: a `while`.
     while i < n {
         let run = passed_lines(text, start + i, n - i, best);
         if run != 0 {

@@ -33,6 +33,7 @@ fn lane_on(t: &[u8; 128], k: usize, from: Lane) -> Lane
 }
 
 // A lane at a time, so that the compiler takes all sixteen at once.
+// In line for both callers: 1.7 of the time of a text with tabs else.
 #[inline(always)]
 pub fn sixteen_on(
     c: &mut [u8; 16],

@@ -5,7 +5,7 @@ use mathlib.Core.List.{List, ◌++◌}
 use Prim.Native.Nat.{ℕ, ◌+◌, ◌-◌, ◌*◌, ◌%◌, ◌≤◌, ◌<◌, max}
 use native.Mathlib.Omega.{arith}
 use lib.Dec.{ltb}
-use lib.ListN.{length, get_or, replicate, get_or-replicate}
+use lib.ListN.{length, get_or}
 use borrow.Author.Tests.{lt-ltb, le-ltb}
 use Rattle.rules.specs.Text.{line_feeds}
 use Rattle.rules.proofs.Short.{feeds-few}
@@ -42,20 +42,6 @@ pub record Narrows (d : List ℕ) (start far j : ℕ) (c h g feeds : List ℕ) :
   pub largest_long : length h ≡ 16
   pub inner_long : length g ≡ 16
   pub feeds_long : length feeds ≡ 16
-
-pub none-narrow : (d : List ℕ) (start far : ℕ) → Narrows d start far 0 (replicate 16 128) (replicate 16 128) (replicate 16 0) (replicate 16 0)
-none-narrow d start far = record {
-  within = omega arith;
-  sixteens = omega arith;
-  column = λ k h. get_or-replicate {A = ℕ} 16 k 128 0 h;
-  largest = λ k h. get_or-replicate {A = ℕ} 16 k 128 0 h;
-  inner = λ k h. get_or-replicate {A = ℕ} 16 k 0 0 h;
-  fed = λ k h. get_or-replicate {A = ℕ} 16 k 0 0 h;
-  columns_long = refl;
-  largest_long = refl;
-  inner_long = refl;
-  feeds_long = refl;
-}
 
 -- the same lane, read from lists
 same-lane : (a b c : ℕ) (m : Lane) → a ≡ m.at → b ≡ m.top → c ≡ m.inner → fresh a b c ≡ fresh m.at m.top m.inner

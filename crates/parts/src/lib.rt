@@ -21,6 +21,7 @@ pub struct Counted {
 // ---- the parts one after the other
 
 // Where a part's first line ends. A column above the offset has met no line feed.
+#[tactic(auto, using(crate::proofs::JoinLaws::by_above))]
 fn first_line(text: &[u8], start: usize, n: usize, at: u16) -> usize
     requires n_in_bounds { (start + n ≤ length text.now) × (n ≤ 4064) }
     requires at_value { at ≡ (measure (count 32768 32768) (part text.now start n)).at }

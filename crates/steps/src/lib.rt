@@ -41,7 +41,7 @@ pub fn codes(t: &mut [u8])
     }
 }
 
-// The codes of eight bytes of sixteen parts, side by side.
+// The codes of eight bytes of sixteen parts, side by side. In line, as `sixteen_on` of `narrow`.
 #[inline(always)]
 #[tactic(auto, using(crate::proofs::StepLaws::coded_all))]
 pub fn coded(text: &[u8], start: usize, far: usize) -> [u8; 128]
