@@ -1,15 +1,17 @@
 -- Laws of the first byte of a kind. Assumes nothing.
 use mathlib.Core.Path.{◌≡◌, refl, sym, ap, ◌∙◌}
-use mathlib.Core.Bool.{Bool, true, false, ◌||◌}
+use mathlib.Core.Bool.{Bool, true, false, ◌||◌, not}
 use mathlib.Core.List.{List, [], ◌∷◌, ◌++◌}
-use Prim.Native.Nat.{ℕ, suc, ◌+◌, ◌-◌, ◌≤◌, ◌<◌}
+use Prim.Native.Nat.{ℕ, suc, ◌+◌, ◌≤◌, ◌<◌}
 use native.Mathlib.Omega.{arith}
-use lib.Dec.{eqb}
-use lib.ListN.{length, drop, get_or}
-use borrow.Author.Tests.{eq-eqb, ne_eqb, eqb-true}
-use Rattle.std.specs.Prelude.{fold}
-use Rattle.ascii.specs.Part.{part, has, before}
-use Rattle.ascii.proofs.PartLaws.{length_part, part-next, part_end, part-drop, part-more}
+use lib.Dec.{eqb, ltb}
+use lib.ListN.{length, take, drop, take-append-drop, length-append}
+use borrow.Author.Tests.{eqb-true, ltb-false}
+use Rattle.std.specs.Prelude.{Option, Some, None, cond, fold, unwrap_or}
+use Rattle.std.specs.List.{position, position_or_len}
+use Rattle.std.proofs.lemmas.List.Recursion.{is_position_or_len}
+use Rattle.std.proofs.lemmas.List.Sums.{prefix_len-le-length}
+use Rattle.ascii.specs.Part.{has, before}
 
 pub has_both : (a b : ℕ) (v w : List ℕ) → has a b (v ++ w) ≡ (has a b v || has a b w)
 has_both a b [] w = refl
@@ -63,31 +65,33 @@ before-next b (x ∷ xs) h = go (eqb x b) refl (before-next b xs)
         let m : suc (before b xs) + 1 ≡ suc (before b xs + 1) = omega arith in
         rw (k, m) (f (omega arith))
 
-module _ (s : List ℕ) (start n b i : ℕ) (h : start + n ≤ length s) (e : i + before b (drop i (part s start n)) ≡ before b (part s start n)) where
-  pub by-run-none : (k : ℕ) → i + k ≤ n → has b b (part s (start + i) k) ≡ false → i + k + before b (drop (i + k) (part s start n)) ≡ before b (part s start n)
-  by-run-none k c f =
-      let m : ℕ = n - (i + k) in
-      let a : n - i ≡ k + m = omega arith in
-      let u : start + i + k ≡ start + (i + k) = omega arith in
-      let l = length_part s (start + i) k (omega arith) in
-      let p : drop i (part s start n) ≡ part s (start + i) k ++ drop (i + k) (part s start n) =
-      part-drop s start n i ∙ ap (part s (start + i)) a ∙ part-more s (start + i) k m ∙ ap (λ (j : ℕ). part s (start + i) k ++ part s j m) u ∙ ap (λ (v : List ℕ). part s (start + i) k ++ v) (sym (part-drop s start n (i + k))) in
-      let q = ap (before b) p ∙ before-none b (part s (start + i) k) (drop (i + k) (part s start n)) f in
+one_more : (n : ℕ) → suc n ≡ 1 + n
+one_more n = omega arith
+
+first_place : (b : ℕ) (v : List ℕ) → before b v ≡ position_or_len (λ x. eqb x b) v
+first_place b v = is_position_or_len (before b) (λ x. eqb x b) refl (λ x xs. rw one_more) v
+
+-- the first b, or the length where there is none
+pub first_or : (b : ℕ) (v : List ℕ) (o : Option ℕ) → o ≡ position (λ x. eqb x b) v → (r : ℕ) → r ≡ unwrap_or o (length v) → r ≡ before b v
+first_or b v o e r f =
+    let p = position_or_len (λ x. eqb x b) v in
+    let q : p ≤ length v = prefix_len-le-length (λ x. not (eqb x b)) v in
+    f ∙ rw (e, first_place b v) (go (ltb p (length v)) refl q)
+  where
+    go : (c : Bool) → ltb (position_or_len (λ x. eqb x b) v) (length v) ≡ c → position_or_len (λ x. eqb x b) v ≤ length v
+        → unwrap_or (cond c (Some (position_or_len (λ x. eqb x b) v)) None) (length v) ≡ position_or_len (λ x. eqb x b) v
+    go true k q = refl
+    go false k q = let m = ltb-false (position_or_len (λ x. eqb x b) v) (length v) k in omega arith
+
+-- whole is the part, left what is left of it after blocks without b
+module _ (b n : ℕ) (whole left : List ℕ) (e : before b left + n ≡ before b whole + length left) where
+  pub no_block : (k : ℕ) (block after : List ℕ) → block ≡ take k left → after ≡ drop k left → length after + k ≡ length left → (r : Bool) → r ≡ fold (λ all x. all || eqb x b || eqb x b) false block → r ≡ false
+      → before b after + n ≡ before b whole + length after
+  no_block k block after f g l r t z =
+      let h : has b b block ≡ false = sym (by_fold b b block r t) ∙ z in
+      let p : left ≡ block ++ after = rw (f, g) (sym (take-append-drop k left)) in
+      let q = ap (before b) p ∙ before-none b block after h in
+      let m : length block ≡ k = let u = ap length p ∙ length-append block after in omega arith in
       omega arith
 
-  pub by-other-byte : i < n → (get_or s (start + i) 0 ≡ b → ⊥) → i + 1 + before b (drop (i + 1) (part s start n)) ≡ before b (part s start n)
-  by-other-byte c z =
-      let k : before b (drop i (part s start n)) ≡ suc (before b (drop (i + 1) (part s start n))) = rw (part-next s start n i h c, ne_eqb _ _ z) in
-      omega arith
-
-  pub by_byte : i < n → get_or s (start + i) 0 ≡ b → i ≡ before b (part s start n)
-  by_byte c z =
-      let k : before b (drop i (part s start n)) ≡ 0 = rw (part-next s start n i h c, eq-eqb _ _ z) in
-      omega arith
-
-  pub by-no-byte : n ≤ i → i ≡ before b (part s start n)
-  by-no-byte c =
-      let k : before b (drop i (part s start n)) ≡ 0 = rw (part_end s start n i h c) in
-      omega arith
-
-pub ruleset finds = (by-run-none, by-other-byte, by_byte, by-no-byte)
+pub ruleset finds = (first_or, no_block)

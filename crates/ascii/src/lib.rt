@@ -1,7 +1,7 @@
 // What the layout asks of bytes: whether one is blank or white, one in another case, and whether two parts are the same.
 #![tactic(auto)]
 
-ghost use Rattle.std.specs.Prelude.{◌≡◌, false, ◌||◌, ℕ, ◌+◌, ◌≤◌, eqb, fold, length, replicate};
+ghost use Rattle.std.specs.Prelude.{◌≡◌, false, ◌||◌, ℕ, ◌+◌, ◌≤◌, eqb, fold, position, length, replicate};
 ghost use Rattle.std.specs.List.{list_all, zip};
 ghost use Rattle.rules.specs.Base.{same};
 ghost use Rattle.rules.specs.Text.{is_blank, is_white, to_lower, byte_in_case, is_lower};
@@ -128,21 +128,24 @@ pub fn in_run(src: &[u8], start: usize, n: usize, a: u8, b: u8) -> bool
     has_either(&src[start..start + n], a, b)
 }
 
-// How many bytes stand before the first b.
+fn place_of(v: &[u8], b: u8) -> Option<usize>
+    ensures { result ≡ position (λ x. eqb x b) v.now }
+{
+    v.iter().position(|x| *x == b)
+}
+
+// How many bytes stand before the first b. Blocks of 16 without it are passed whole.
 #[tactic(auto, using(crate::proofs::FindLaws::finds))]
 pub fn find(src: &[u8], start: usize, n: usize, b: u8) -> usize
     requires { start + n ≤ length src.now }
     ensures { (result ≡ before b (part src.now start n)) × (result ≤ n) }
 {
-    // Steps of 16: by `chunks_exact` and `position` it takes up to 2 times as long, by the crate memchr up to 3 where the byte is near.
-    let mut clean = 0;
-    while 16 <= n - clean && !in_run(src, start + clean, 16, b, b) {
-        clean += 16;
-    }
-    for i in clean..n {
-        if src[start + i] == b {
-            return i;
+    let mut rest = &src[start..start + n];
+    while let Some((block, after)) = rest.split_first_chunk::<16>() {
+        if has_either(block, b, b) {
+            break;
         }
+        rest = after;
     }
-    n
+    n - rest.len() + place_of(rest, b).unwrap_or(rest.len())
 }

@@ -1,12 +1,9 @@
-use Rattle.std.proofs.Common.{◌≡◌, ◌+◌, ◌-◌, ◌≤◌, drop}
+use Rattle.std.proofs.Common.{◌≡◌, ◌+◌, ◌≤◌, length}
 use Rattle.ascii.specs.Part.{part, before}
 use Rattle.ascii.proofs.find.Given as goal
 
-abbrev pub invariant-loop-clean : goal.invariant-loop-clean
-invariant-loop-clean l = (l.clean ≤ l.n) × (l.clean + before l.b (drop l.clean (part l.src l.start l.n)) ≡ before l.b (part l.src l.start l.n))
+abbrev pub invariant-loop-block : goal.invariant-loop-block
+invariant-loop-block l = (length l.rest ≤ l.n) × (before l.b l.rest + l.n ≡ before l.b (part l.src l.start l.n) + length l.rest)
 
-abbrev pub decreases-loop-clean : goal.decreases-loop-clean
-decreases-loop-clean l = l.n - l.clean
-
-abbrev pub invariant-loop-i : goal.invariant-loop-i
-invariant-loop-i l = l.i + before l.b (drop l.i (part l.src l.start l.n)) ≡ before l.b (part l.src l.start l.n)
+abbrev pub decreases-loop-block : goal.decreases-loop-block
+decreases-loop-block l = length l.rest
