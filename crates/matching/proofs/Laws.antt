@@ -1,18 +1,11 @@
 -- What a reader of `reach` may say of its result. Assumes nothing.
-use mathlib.Core.Path.{◌≡◌, refl, sym, ap, ◌∙◌}
-use mathlib.Core.Bool.{Bool, true, false, false≢true}
-use Rattle.std.specs.Prelude.{Option, None, Some, if◌then◌else◌}
-use mathlib.Core.List.{List, [], ◌∷◌}
-use Prim.Native.Nat.{ℕ, suc, ◌+◌, ◌-◌, ◌≤◌, ◌<◌}
-use native.Mathlib.Omega.{arith}
-use lib.Dec.{eqb, leb}
-use lib.ListN.{length, drop, length-drop}
-use lib.Seq.{drop-cons}
-use Rattle.rules.specs.Base.{find}
+use Rattle.std.proofs.Common.{◌≡◌, refl, sym, ap, ◌∙◌, Bool, true, false, Option, None, Some, List, [], ◌∷◌, ℕ, suc, ◌-◌, ◌≤◌, eqb, length, drop, arith}
+use Rattle.std.proofs.Math.Seq.{drop-cons}
+use Rattle.std.proofs.lemmas.List.{length-drop}
+use Rattle.std.specs.Prelude.{if◌then◌else◌}
 use Rattle.rules.specs.Due.{white, strip}
 use Rattle.foreign.specs.Foreign.{begins}
-use Rattle.matching.specs.declared.Reached.{Reached}
-use Rattle.matching.specs.Read.{low_bytes, read_to, reached_of}
+use Rattle.matching.specs.Read.{read_to}
 
 -- ---- the reading, held against `begins`
 
@@ -46,41 +39,13 @@ read_is (x ∷ v) (y ∷ part) text at h l =
     go false true q same next = one_more x y v (strip part) text (read_to v (suc at) part) q next
     go false false q same next = rw q
 
--- r reads v from a byte of the text on
-module _ (v text : List ℕ) (from : ℕ) (l : from ≤ length text) (r : Reached) (e : r ≡ reached_of (read_to v from (drop from text))) where
-  -- whether it begins with v
-  pub reached-all : r.all ≡ begins v (strip (drop from text))
-  unfolding reached_of
-  reached-all = rw e (go (read_to v from (drop from text)) (read_is v (drop from text) text from refl l))
-    where
-      go : (o : Option ℕ) → ReadsAs v (strip (drop from text)) text o → (reached_of o).all ≡ begins v (strip (drop from text))
-      go None h = sym h
-      go (Some at) h = sym h.0
+-- r reads v from a byte of the text on: it begins with v and so much is left, or it does not begin with v
+module _ (v text : List ℕ) (from : ℕ) (l : from ≤ length text) (r : Option ℕ) (e : r ≡ read_to v from (drop from text)) where
+  reads : ReadsAs v (strip (drop from text)) text r
+  reads = rw e (read_is v (drop from text) text from refl l)
 
-  -- what is left then
-  pub reached-left : r.all ≡ true → (strip (drop r.at text) ≡ drop (length v) (strip (drop from text))) × (r.at ≤ length text)
-  unfolding reached_of
-  reached-left = rw e (go (read_to v from (drop from text)) (read_is v (drop from text) text from refl l))
-    where
-      go : (o : Option ℕ) → ReadsAs v (strip (drop from text)) text o → (reached_of o).all ≡ true → (strip (drop (reached_of o).at text) ≡ drop (length v) (strip (drop from text))) × ((reached_of o).at ≤ length text)
-      go None h z = absurd (false≢true z)
-      go (Some at) h z = h.1
+  pub reached-some : (at : ℕ) → r ≡ Some at → (begins v (strip (drop from text)) ≡ true) × ((strip (drop at text) ≡ drop (length v) (strip (drop from text))) × (at ≤ length text))
+  reached-some at z = rw z at reads
 
--- ---- the first byte of 128 or more
-
-pub low-found : (n : ℕ) (v : List ℕ) → low_bytes v < length v → find (leb 128) n v ≡ Some (n + low_bytes v)
-low-found n [] h = absurd (omega arith)
-low-found n (x ∷ v) h = go (leb 128 x) h (low-found (suc n) v)
-  where
-    go : (b : Bool) → (if b then 0 else suc (low_bytes v)) < suc (length v) → (low_bytes v < length v → find (leb 128) (suc n) v ≡ Some (suc n + low_bytes v))
-        → (if b then Some n else find (leb 128) (suc n) v) ≡ Some (n + (if b then 0 else suc (low_bytes v)))
-    go true k ih = ap (λ (m : ℕ). Some m) (omega arith)
-    go false k ih = ih (omega arith) ∙ ap (λ (m : ℕ). Some m) (omega arith)
-
-pub low-none : (n : ℕ) (v : List ℕ) → length v ≤ low_bytes v → find (leb 128) n v ≡ None
-low-none n [] h = refl
-low-none n (x ∷ v) h = go (leb 128 x) h (low-none (suc n) v)
-  where
-    go : (b : Bool) → suc (length v) ≤ (if b then 0 else suc (low_bytes v)) → (length v ≤ low_bytes v → find (leb 128) (suc n) v ≡ None) → (if b then Some n else find (leb 128) (suc n) v) ≡ None
-    go true k ih = absurd (omega arith)
-    go false k ih = ih (omega arith)
+  pub reached-none : r ≡ None → begins v (strip (drop from text)) ≡ false
+  reached-none z = rw z at reads
