@@ -7,6 +7,7 @@ use Prim.Native.Nat.{ℕ, zero, suc}
 use native.Mathlib.Omega.{arith}
 use lib.Dec.{ltb}
 use lib.ListN.{length-map}
+use Rattle.rules.specs.declared.ZeroIndexed.{ZeroIndexed}
 use Rattle.rules.specs.Base.{when, same, find, nth?}
 use Rattle.rules.specs.Tokens.{Key, absent, named, zero_indexed, one_indexed, from_one, Token}
 use Rattle.rules.specs.Sheet.{Param, QueryParams, NoParams, Indexed, Named}
