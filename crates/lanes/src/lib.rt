@@ -4,7 +4,7 @@
 // columns, and is passed over: a line as wide is known.
 #![tactic(auto)]
 
-ghost use Rattle.std.specs.Prelude.{if◌then◌else◌, ◌≡◌, ◌+◌, ◌-◌, ◌*◌, ◌%◌, ◌≤◌, ◌<◌, max, ltb, length, get_or};
+ghost use Rattle.std.specs.Prelude.{if◌then◌else◌, ◌≡◌, ◌+◌, ◌-◌, ◌*◌, ◌%◌, ◌≤◌, max, ltb, length, get_or};
 ghost use Rattle.std.specs.Int.Bits.{bit_and};
 ghost use Rattle.steps.specs.Steps.{Below, Mapped};
 ghost use Rattle.lanes.specs.Lanes.{Over, Ready, OnSixteen};
@@ -15,7 +15,6 @@ use steps::{add, coded};
 // ---- from wide lanes to bytes and back
 
 fn phases(c: &mut [u8; 16], at: &[u16; 16])
-    requires { length c.old ≡ 16 }
     ensures { Mapped 16 (λ k x. get_or at.now k 0 % 8 + 120) c.old c.new }
 {
     for k in 0..16 {
@@ -25,7 +24,7 @@ fn phases(c: &mut [u8; 16], at: &[u16; 16])
 
 // Where each part's first line ends, or these bytes do.
 fn heads(at: &mut [u16; 16], h: &[u8; 16])
-    requires { (length at.old ≡ 16) × Below at.old 65280 × Over h.now }
+    requires { Below at.old 65280 × Over h.now }
     ensures { Mapped 16 (λ k x. x - x % 8 + (get_or h.now k 0 - 120)) at.old at.new }
 {
     for k in 0..16 {
@@ -34,7 +33,6 @@ fn heads(at: &mut [u16; 16], h: &[u8; 16])
 }
 
 fn tops(to: &mut [u16; 16], at: &[u16; 16], mask: u16)
-    requires { length to.old ≡ 16 }
     ensures { Mapped 16 (λ k x. max (bit_and (get_or at.now k 0) mask) x) to.old to.new }
 {
     for k in 0..16 {
@@ -50,7 +48,6 @@ fn end_of(at: u16, c: u8) -> u16
 }
 
 fn ends(at: &mut [u16; 16], c: &[u8; 16])
-    requires { length at.old ≡ 16 }
     ensures { Mapped 16 (λ k x. if ltb (get_or c.now k 0) 128 then get_or c.now k 0 else x) at.old at.new }
 {
     for k in 0..16 {

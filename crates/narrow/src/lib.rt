@@ -2,7 +2,7 @@
 // with 128 for the offset above which it stands until a line feed comes.
 #![tactic(auto)]
 
-ghost use Rattle.std.specs.Prelude.{◌≡◌, ◌+◌, ◌*◌, ◌≤◌, ◌<◌, length, get_or};
+ghost use Rattle.std.specs.Prelude.{◌≡◌, ◌+◌, ◌*◌, ◌≤◌, ◌<◌, length};
 ghost use Rattle.steps.specs.Steps.{Below, down};
 ghost use Rattle.narrow.specs.Narrow.{lane_on, Laned, NarrowOn};
 
@@ -43,7 +43,6 @@ pub fn sixteen_on(
     t: &[u8; 128],
     u: &[u8; 128],
 )
-    requires { (length c.old ≡ 16) × (length h.old ≡ 16) × (length g.old ≡ 16) × (length n.old ≡ 16) }
     ensures { Laned t.now u.now 16 c.old h.old g.old n.old c.new h.new g.new n.new }
 {
     for k in 0..16 {
@@ -72,7 +71,7 @@ pub fn narrow_block(
     start: usize,
     far: usize,
 )
-    requires { (start + 15 * far + 16 ≤ length text.now) × (length at.old ≡ 16) × (length head.old ≡ 16) × (length best.old ≡ 16) × (length feeds.old ≡ 16) × Below feeds.old 65280 }
+    requires { (start + 15 * far + 16 ≤ length text.now) × Below feeds.old 65280 }
     ensures { NarrowOn text.now start far at.old head.old best.old feeds.old at.new head.new best.new feeds.new }
 {
     let t = coded(text, start, far);

@@ -1,11 +1,11 @@
 // Sixteen parts of a text side by side: eight bytes of each, so that a step for all sixteen is one for a row of bytes.
 #![tactic(auto)]
 
-ghost use Rattle.std.specs.Prelude.{◌≡◌, ◌+◌, ◌*◌, ◌≤◌, length};
+ghost use Rattle.std.specs.Prelude.{◌+◌, ◌*◌, ◌≤◌, length};
 ghost use Rattle.side.specs.Side.{Copied, Laid, Shuffled, SideBySide};
 
 fn copy_eight(to: &mut [u8; 128], at: usize, text: &[u8], start: usize)
-    requires { (at + 8 ≤ length to.old) × (start + 8 ≤ length text.now) }
+    requires { (at + 8 ≤ 128) × (start + 8 ≤ length text.now) }
     ensures { Copied text.now start at 8 to.old to.new }
 {
     // By `copy_from_slice` the eight bytes go through memory: 1.1 to 1.2 of the time of a text with tabs.
@@ -26,7 +26,7 @@ fn lay(to: &mut [u8; 128], text: &[u8], start: usize, far: usize)
 
 // Both halves, a byte of each in turn: four times, and the parts stand side by side. Vector code has an instruction for it.
 fn shuffle(to: &mut [u8; 128], from: &[u8; 128])
-    ensures { (length to.new ≡ 128) × Shuffled from.now 64 to.new }
+    ensures { Shuffled from.now 64 to.new }
 {
     for i in 0..64 {
         to[2 * i] = from[i];

@@ -2,7 +2,7 @@
 // bits, so that the next multiple of eight comes; a line feed's is all bits, so that the sum wraps to 0.
 #![tactic(auto)]
 
-ghost use Rattle.std.specs.Prelude.{◌≡◌, ◌+◌, ◌*◌, ◌<◌, ◌≤◌, length, slice_index};
+ghost use Rattle.std.specs.Prelude.{◌≡◌, ◌+◌, ◌*◌, ◌≤◌, length, slice_index};
 ghost use Rattle.steps.specs.Steps.{code_of, on_by, feed_of, Below, Mapped, Coded};
 
 use side::side_by_side;
@@ -55,7 +55,7 @@ pub fn coded(text: &[u8], start: usize, far: usize) -> [u8; 128]
 }
 
 pub fn add(to: &mut [u16; 16], n: &[u8; 16])
-    requires { (length to.old ≡ 16) × Below to.old 65280 }
+    requires { Below to.old 65280 }
     ensures { Mapped 16 (λ k x. x + slice_index n.now k) to.old to.new }
 {
     for k in 0..16 {

@@ -10,7 +10,7 @@ pub narrow_block-requires : goal.narrow_block-requires
 narrow_block-requires c =
     let s = c.loop-j.invariant in
     let more = narrow-more c.args.text.now c.args.start c.args.far _ _ _ _ _ c.requires.far_in_bounds s (search rules) in
-    (omega (arith, more, c.requires.far_in_bounds), s.columns_long, s.largest_long, s.inner_long, s.feeds_long, narrow-fed c.args.text.now c.args.start c.args.far _ _ _ _ _ c.requires.far_in_bounds s)
+    (omega (arith, more, c.requires.far_in_bounds), narrow-fed c.args.text.now c.args.start c.args.far _ _ _ _ _ c.requires.far_in_bounds s)
 
 pub loop-j-preserved : goal.loop-j-preserved
 loop-j-preserved c =

@@ -1,8 +1,6 @@
-use mathlib.Core.Path.{◌≡◌}
-use lib.ListN.{length}
 use Rattle.side.specs.Side.{Shuffled}
 use Rattle.side.proofs.shuffle.Given as goal
 
 abbrev pub invariant-loop-i : goal.invariant-loop-i
 invariant-loop-i l =
-    (length l.to ≡ 128) × Shuffled l.from l.i l.to
+    Shuffled l.from l.i l.to
