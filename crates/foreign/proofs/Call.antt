@@ -22,8 +22,9 @@ use Rattle.rules.specs.Due.{strip, Piece, role_of, kept_on, switches, kept_by, k
 use Rattle.checks.proofs.Sound.{sound-sheeted}
 use Rattle.rules.proofs.Keeps.{onto, due_by, due-append, kept_here, next_switch, kept_after, kept_step}
 use Rattle.foreign.specs.declared.Verdict.{Verdict}
+use Rattle.foreign.specs.declared.Refusal.{Refusal}
 use Rattle.foreign.specs.declared.Judged.{Judged}
-use Rattle.foreign.specs.Foreign.{begins, first_from, unless_at, has_first, unless_no, compared, judge_tokens, judge_as, judge, judged_of}
+use Rattle.foreign.specs.Foreign.{begins, first_from, unless_at, has_first, unless_no, compared, judge_tokens, judge_as, judge, number_of, judged_of}
 use Rattle.foreign.proofs.Walk.{begins-on, begins-rest, same-on}
 use Rattle.foreign.specs.Judges.{Begins, kept_first, due_first, LacksAt, NoAt, lacking, exceeding, Judges}
 
@@ -151,9 +152,9 @@ not_more v rest y h = let l = length-append v (y ∷ rest) in let e = ap length 
 abbrev Given : ℕ → Type 0
 Given n = any_of (eqb n) (0 ∷ 1 ∷ 2 ∷ 3 ∷ 4 ∷ 5 ∷ 15 ∷ []) ≡ true
 
-judges_refused : (s text : List ℕ) (n p : ℕ) → (n ≡ 0 → ⊥) → Given n → Judges s text (judged_of (Verdict.Refused n p))
+judges_refused : (s text : List ℕ) (r : Refusal) → (number_of r ≡ 0 → ⊥) → Given (number_of r) → Judges s text (judged_of (Err r))
 unfolding judged_of
-judges_refused s text n p k g = record { sound = λ z. absurd (k z); yes_due = λ z. absurd (k z); due_yes = λ z. absurd (k z); no_at = λ z. absurd (k z); given = g; refused = λ z. (refl, refl) }
+judges_refused s text r k g = record { sound = λ z. absurd (k z); yes_due = λ z. absurd (k z); due_yes = λ z. absurd (k z); no_at = λ z. absurd (k z); given = g; refused = λ z. (refl, refl) }
 
 -- ---- the tokens of a sheet
 
@@ -219,7 +220,10 @@ module _ (s : List ℕ) (c : Counts) (text : List ℕ) where
   Says : Verdict → Type 0
   Says Verdict.Yes = strip text ≡ due_all
   Says (Verdict.No i) = NoAt s c text i × (strip text ≡ due_all → ⊥)
-  Says (Verdict.Refused n p) = (n ≡ 0 → ⊥) × Given n
+
+  Told : Result Verdict Refusal → Type 0
+  Told (Ok v) = Says v
+  Told (Err r) = (number_of r ≡ 0 → ⊥) × Given (number_of r)
 
   -- all is there: nothing more, or more
   all_there : checked s ≡ Ok c → Begins due_all (strip text) → (b : Bool) → same due_all (strip text) ≡ b → Says (if b then Verdict.Yes else Verdict.No (length ts))
@@ -238,23 +242,23 @@ module _ (s : List ℕ) (c : Counts) (text : List ℕ) where
       let l = lacks-here i f in
       (lacking l, λ z. l.lacks (rw z (due-first (suc i))))
 
-  says-unless : (n : ℕ) (o : Option ℕ) (v : Verdict) → (n ≡ 0 → ⊥) → Given n → Says v → Says (unless_at n o v)
-  unfolding Says unless_at
-  says-unless n None v z g k = k
-  says-unless n (Some p) v z g k = (z, g)
+  told-unless : (r : ℕ → Refusal) (o : Option ℕ) (v : Result Verdict Refusal) → ((p : ℕ) → (number_of (r p) ≡ 0 → ⊥) × Given (number_of (r p))) → Told v → Told (unless_at r o v)
+  unfolding Told unless_at
+  told-unless r None v z k = k
+  told-unless r (Some p) v z k = z p
 
-  says-tokens : checked s ≡ Ok c → Says (judge_tokens (params_of s c) (keeps_of s c) (options_of s).casing ts text)
-  unfolding judge_tokens compared
-  says-tokens h = says-unless _ _ _ (λ z. omega arith) refl (says-unless _ _ _ (λ z. omega arith) refl (says-compared h _ (finds lacks_to 0 (length ts))))
+  told-tokens : checked s ≡ Ok c → Told (judge_tokens (params_of s c) (keeps_of s c) (options_of s).casing ts text)
+  unfolding Told judge_tokens compared
+  told-tokens h = told-unless _ _ _ (λ p. (λ z. omega arith, refl)) (told-unless _ _ _ (λ p. (λ z. omega arith, refl)) (says-compared h _ (finds lacks_to 0 (length ts))))
 
   -- in numbers
   due-is : checked s ≡ Ok c → due_of s ≡ due_all
   unfolding due_of due_in
   due-is h = rw h
 
-  judges_so : checked s ≡ Ok c → (v : Verdict) → Says v → Judges s text (judged_of v)
-  unfolding Says judged_of
-  judges_so h Verdict.Yes k =
+  judges_so : checked s ≡ Ok c → (v : Result Verdict Refusal) → Told v → Judges s text (judged_of v)
+  unfolding Says Told judged_of
+  judges_so h (Ok Verdict.Yes) k =
       record {
         sound = λ z. h ∙ ap (λ (x : Counts). Ok x) (sound-sheeted s c h).counted;
         yes_due = λ z m. k ∙ sym (due-is h);
@@ -263,7 +267,7 @@ module _ (s : List ℕ) (c : Counts) (text : List ℕ) where
         given = refl;
         refused = λ z. absurd (z refl);
       }
-  judges_so h (Verdict.No i) k =
+  judges_so h (Ok (Verdict.No i)) k =
       record {
         sound = λ z. h ∙ ap (λ (x : Counts). Ok x) (sound-sheeted s c h).counted;
         yes_due = λ z m. absurd (omega arith);
@@ -272,17 +276,17 @@ module _ (s : List ℕ) (c : Counts) (text : List ℕ) where
         given = refl;
         refused = λ z. absurd (z refl);
       }
-  judges_so h (Verdict.Refused n p) k = judges_refused s text n p k.0 k.1
+  judges_so h (Err r) k = judges_refused s text r k.0 k.1
 
 -- ---- the call
 
 judges_as : (s text : List ℕ) (f : Result Counts Offence) → checked s ≡ f → Judges s text (judged_of (judge_as s text f))
 unfolding judge_as
-judges_as s text (Ok c) h = judges_so s c text h _ (says-tokens s c text h)
-judges_as s text (Err offence.Size) h = judges_refused s text 1 0 (λ z. omega arith) refl
-judges_as s text (Err (offence.Word p)) h = judges_refused s text 2 p (λ z. omega arith) refl
-judges_as s text (Err (offence.Place p)) h = judges_refused s text 3 p (λ z. omega arith) refl
-judges_as s text (Err (offence.Byte p)) h = judges_refused s text 4 p (λ z. omega arith) refl
+judges_as s text (Ok c) h = judges_so s c text h _ (told-tokens s c text h)
+judges_as s text (Err offence.Size) h = judges_refused s text (Refusal.Sheet offence.Size) (λ z. omega arith) refl
+judges_as s text (Err (offence.Word p)) h = judges_refused s text (Refusal.Sheet (offence.Word p)) (λ z. omega arith) refl
+judges_as s text (Err (offence.Place p)) h = judges_refused s text (Refusal.Sheet (offence.Place p)) (λ z. omega arith) refl
+judges_as s text (Err (offence.Byte p)) h = judges_refused s text (Refusal.Sheet (offence.Byte p)) (λ z. omega arith) refl
 
 -- any numbers that the call's equation allows
 pub call_judges : (s text : List ℕ) (r : Judged) → r ≡ judged_of (judge s text) → Judges s text r

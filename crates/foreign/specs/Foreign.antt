@@ -6,11 +6,13 @@ use Rattle.std.specs.Prelude.{if◌then◌else◌, Bool, true, false, not, ◌&&
 use Rattle.rules.specs.declared.Case.{Case}
 use Rattle.rules.specs.Base.{same, any_of, find}
 use Rattle.rules.specs.Tokens.{Token}
-use Rattle.rules.specs.Checks.{checked, number_of, place_of}
+use Rattle.rules.specs.Checks as checks
+use Rattle.rules.specs.Checks.{checked}
 use Rattle.rules.specs.Sheet.{QueryParams, options_of, params_of, keeps_of, tokens_of}
 use Rattle.rules.specs.Params.{offends}
 use Rattle.rules.specs.Due.{strip, Piece, own, cased, filled, kept_tokens, due}
 use Rattle.foreign.specs.declared.Verdict.{Verdict}
+use Rattle.foreign.specs.declared.Refusal.{Refusal}
 use Rattle.foreign.specs.declared.Judged.{Judged}
 
 -- text begins with v
@@ -54,25 +56,37 @@ module _ (ps : QueryParams) (keep : List (List ℕ)) (k : Case) (ts : List Token
   unfoldable pub compared : List ℕ → Verdict
   compared text = unless_no text (first_from (λ i. not (has_first text (suc i))) 0 (length ts))
 
+-- ---- a refusal's number and place
+
+abbrev pub number_of : Refusal → ℕ
+number_of (Refusal.Sheet o) = checks.number_of o
+number_of (Refusal.Number i) = 5
+number_of (Refusal.High p) = 15
+
+abbrev pub place_of : Refusal → ℕ
+place_of (Refusal.Sheet o) = checks.place_of o
+place_of (Refusal.Number i) = i
+place_of (Refusal.High p) = p
+
 -- ---- the verdict
 
-unfoldable pub unless_at : ℕ → Option ℕ → Verdict → Verdict
-unless_at n None later = later
-unless_at n (Some place) later = Verdict.Refused n place
+unfoldable pub unless_at : (ℕ → Refusal) → Option ℕ → Result Verdict Refusal → Result Verdict Refusal
+unless_at r None later = later
+unless_at r (Some place) later = Err (r place)
 
 -- 5 before any text is read, then 15 at the first text byte of 128 or more
-unfoldable pub judge_tokens : QueryParams → List (List ℕ) → Case → List Token → List ℕ → Verdict
-judge_tokens ps keep k ts text = unless_at 5 (first_barred ps ts) (unless_at 15 (find (leb 128) 0 text) (compared ps keep k ts text))
+unfoldable pub judge_tokens : QueryParams → List (List ℕ) → Case → List Token → List ℕ → Result Verdict Refusal
+judge_tokens ps keep k ts text = unless_at Refusal.Number (first_barred ps ts) (unless_at Refusal.High (find (leb 128) 0 text) (Ok (compared ps keep k ts text)))
 
-unfoldable pub judge_as : List ℕ → List ℕ → Result Counts Offence → Verdict
+unfoldable pub judge_as : List ℕ → List ℕ → Result Counts Offence → Result Verdict Refusal
 judge_as s text (Ok c) = judge_tokens (params_of s c) (keeps_of s c) (options_of s).casing (tokens_of s c) text
-judge_as s text (Err o) = Verdict.Refused (number_of o) (place_of o)
+judge_as s text (Err o) = Err (Refusal.Sheet o)
 
-unfoldable pub judge : List ℕ → List ℕ → Verdict
+unfoldable pub judge : List ℕ → List ℕ → Result Verdict Refusal
 judge s text = judge_as s text (checked s)
 
 -- the verdict in numbers
-unfoldable pub judged_of : Verdict → Judged
-judged_of Verdict.Yes = record { refusal = 0; place = 0; matches = 1; token = 0 }
-judged_of (Verdict.No i) = record { refusal = 0; place = 0; matches = 0; token = i }
-judged_of (Verdict.Refused n p) = record { refusal = n; place = p; matches = 0; token = 0 }
+unfoldable pub judged_of : Result Verdict Refusal → Judged
+judged_of (Ok Verdict.Yes) = record { refusal = 0; place = 0; matches = 1; token = 0 }
+judged_of (Ok (Verdict.No i)) = record { refusal = 0; place = 0; matches = 0; token = i }
+judged_of (Err r) = record { refusal = number_of r; place = place_of r; matches = 0; token = 0 }
