@@ -2,7 +2,7 @@
 use Rattle.rules.specs.declared.Offence.TheVariants as offence
 use Rattle.rules.specs.declared.Offence.{Offence}
 use mathlib.Core.Path.{◌≡◌, refl, sym, ap, subst, ◌∙◌}
-use mathlib.Core.Bool.{Bool, true, false, not, ◌&&◌, false≢true}
+use mathlib.Core.Bool.{Bool, true, false, not, false≢true}
 use Rattle.std.specs.Prelude.{Option, None, Some, if◌then◌else◌, Err, Ok, Result}
 use mathlib.Core.List.{List, [], ◌∷◌, ◌++◌, append_assoc, append-nil}
 use Prim.Native.Nat.{ℕ, zero, suc, ◌+◌, ◌≤◌, ◌<◌}
@@ -20,6 +20,7 @@ use Rattle.rules.specs.Sheet.{list_of, token_of, options_of, params_of, keeps_of
 use Rattle.rules.specs.Words.{body_at}
 use Rattle.rules.specs.Due.{strip, Piece, role_of, kept_on, switches, kept_by, kept_tokens, Role, blank, comment, placeholder, reserved, other, due_from, due, due_in, due_of}
 use Rattle.checks.proofs.Sound.{sound-sheeted}
+use Rattle.ascii.proofs.RunLaws.{same_true}
 use Rattle.rules.proofs.Keeps.{onto, due_by, due-append, kept_here, next_switch, kept_after, kept_step}
 use Rattle.foreign.specs.declared.Verdict.{Verdict}
 use Rattle.foreign.specs.declared.Refusal.{Refusal}
@@ -126,16 +127,6 @@ kept-first on drop (t ∷ ts) (suc i) =
     }
 
 -- ---- beginnings, and what is the same
-
-same_true : (v w : List ℕ) → same v w ≡ true → v ≡ w
-same_true [] [] h = refl
-same_true [] (y ∷ w) h = absurd (false≢true h)
-same_true (x ∷ v) [] h = absurd (false≢true h)
-same_true (x ∷ v) (y ∷ w) h = go (eqb x y) refl h (same_true v w)
-  where
-    go : (b : Bool) → eqb x y ≡ b → (b && same v w) ≡ true → (same v w ≡ true → v ≡ w) → x ∷ v ≡ y ∷ w
-    go true q g ih = rw (eqb-true x y q, ih g)
-    go false q g ih = absurd (false≢true g)
 
 begins-so : (v text : List ℕ) → Begins v text → begins v text ≡ true
 unfolding begins

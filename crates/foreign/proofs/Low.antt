@@ -1,18 +1,19 @@
 -- What is due of a checked sheet has no byte of 128 or more. Assumes nothing.
 use mathlib.Core.Path.{◌≡◌, refl}
-use mathlib.Core.Bool.{Bool, true, false, ◌&&◌, ◌||◌, false≢true}
+use mathlib.Core.Bool.{Bool, true, false, ◌&&◌}
 use Rattle.std.specs.Prelude.{Option, None, Some, if◌then◌else◌, unwrap_or}
 use mathlib.Core.List.{List, [], ◌∷◌, ◌++◌}
 use Prim.Native.Nat.{ℕ, zero, suc, ◌+◌, ◌-◌, ◌≤◌, ◌<◌}
 use native.Mathlib.Omega.{arith}
 use lib.Dec.{eqb, leb}
 use lib.ListN.{length, drop, get_or}
-use borrow.Author.Tests.{eqb-true, leb-true, lt-leb}
+use borrow.Author.Tests.{lt-leb}
+use Rattle.std.proofs.lemmas.Bool.Decides.{nat_tests}
 use Rattle.rules.specs.declared.Case.{Case}
 use Rattle.rules.specs.declared.Case.TheVariants as case
 use Rattle.rules.specs.declared.Counts.{Counts}
 use Rattle.rules.specs.declared.Place.{Place}
-use Rattle.rules.specs.Base.{same, any_of, find, nth?}
+use Rattle.rules.specs.Base.{same, find, nth?}
 use Rattle.rules.specs.Tokens.{Key, absent, named, zero_indexed, one_indexed, Token}
 use Rattle.rules.specs.Text.{byte_in_case, in_case}
 use Rattle.rules.specs.Words.{word_at, body_at, token_at}
@@ -44,15 +45,7 @@ low-append (x ∷ v) w h k = (h.0, low-append v w h.1 k)
 -- ---- white bytes
 
 white_low : (x : ℕ) → white x ≡ true → x < 128
-white_low x h = go (9 ∷ 10 ∷ 11 ∷ 12 ∷ 13 ∷ 32 ∷ []) (omega arith, (omega arith, (omega arith, (omega arith, (omega arith, (omega arith, tt)))))) h
-  where
-    step : (y : ℕ) (ys : List ℕ) (b : Bool) → eqb x y ≡ b → y < 128 → (b || any_of (eqb x) ys) ≡ true → (any_of (eqb x) ys ≡ true → x < 128) → x < 128
-    step y ys true e l h ih = let q = eqb-true x y e in omega arith
-    step y ys false e l h ih = ih h
-
-    go : (ys : List ℕ) → Low ys → any_of (eqb x) ys ≡ true → x < 128
-    go [] l h = absurd (false≢true h)
-    go (y ∷ ys) l h = step y ys (eqb x y) refl l.0 h (go ys l.1)
+white_low x h = grind (arith, nat_tests)
 
 low-strip : (v : List ℕ) → Low v → Low (strip v)
 low-strip [] h = tt
@@ -72,19 +65,16 @@ strip-low (x ∷ v) h = go (white x) refl h (strip-low v)
 
 -- ---- letter case
 
+upper-low : (x : ℕ) → x < 128 → (if leb 97 x && leb x 122 then x - 32 else x) < 128
+upper-low x h = grind (arith, nat_tests)
+
+lower-low : (x : ℕ) → x < 128 → (if leb 65 x && leb x 90 then x + 32 else x) < 128
+lower-low x h = grind (arith, nat_tests)
+
 low_byte : (k : Case) (x : ℕ) → x < 128 → byte_in_case k x < 128
 low_byte case.AsIs x h = h
-low_byte case.Upper x h = go (leb 97 x && leb x 122)
-  where
-    go : (b : Bool) → (if b then x - 32 else x) < 128
-    go true = omega arith
-    go false = h
-low_byte case.Lower x h = go (leb 65 x) (leb x 90) refl
-  where
-    go : (a b : Bool) → leb x 90 ≡ b → (if a && b then x + 32 else x) < 128
-    go true true e = let l = leb-true x 90 e in omega arith
-    go true false e = h
-    go false b e = h
+low_byte case.Upper x h = upper-low x h
+low_byte case.Lower x h = lower-low x h
 
 low-case : (k : Case) (v : List ℕ) → Low v → Low (in_case k v)
 low-case k [] h = tt
