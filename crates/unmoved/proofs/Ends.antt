@@ -118,7 +118,7 @@ moved-first n a j k l h = spot_same (omega arith) (omega arith)
 
 map-none : (f : Spot → Spot) (hs : List Spot) → [] ≡ map f hs → hs ≡ []
 map-none f [] e = refl
-map-none f (h ∷ hs) e = absurd (let z : ◌≡◌ {A = ℕ} 0 1 = cc in omega arith)
+map-none f (h ∷ hs) e = cc
 
 start-short : (v : List ℕ) → length (trim_start is_white v) ≤ length v
 start-short [] = omega arith

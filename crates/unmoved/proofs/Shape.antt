@@ -73,7 +73,7 @@ both_true false b h = absurd (false≢true h)
 
 firm-nth : (vs : List (List ℕ)) (n : ℕ) (v : List ℕ) → all_firm vs ≡ true → nth? vs n ≡ Some v → firm v ≡ true
 unfolding all_firm
-firm-nth [] n v h e = absurd (let z : ◌≡◌ {A = ℕ} 0 1 = cc in omega arith)
+firm-nth [] n v h e = cc
 firm-nth (x ∷ vs) zero v h e = let s : x ≡ v = cc in rw s at (both_true (firm x) (all_firm vs) h).0
 firm-nth (x ∷ vs) (suc n) v h e = firm-nth vs n v (both_true (firm x) (all_firm vs) h).1 e
 
@@ -85,7 +85,7 @@ nth-value (p ∷ ps) (suc n) = nth-value ps n
 
 firm-value : (ps : QueryParams) (n : ℕ) (v : List ℕ) → all_firm (values ps) ≡ true → value_at ps n ≡ Some v → firm v ≡ true
 unfolding values value_at
-firm-value NoParams n v h e = absurd (let z : ◌≡◌ {A = ℕ} 0 1 = cc in omega arith)
+firm-value NoParams n v h e = cc
 firm-value (Indexed vs) n v h e = firm-nth vs n v h e
 firm-value (Named ps) n v h e = firm-nth (map (λ (p : Param). p.value) ps) n v h (nth-value ps n ∙ e)
 

@@ -52,12 +52,12 @@ unfolding answer_as
 sound-laid s room (Ok c) b l w e = go (is_withdrawn s) e
   where
     go : (f : Bool) → (if f then refusal 14 28 else format (env_of s c room) (tokens_of s c)) ≡ laid b l w → Sound s room (Ok c) (laid b l w)
-    go true e = absurd (let z : ◌≡◌ {A = ℕ} 0 1 = cc in omega arith)
+    go true e = cc
     go false e = record { counts = c; found_so = refl; formats = e }
-sound-laid s room (Err offence.Size) b l w e = absurd (let z : ◌≡◌ {A = ℕ} 0 1 = cc in omega arith)
-sound-laid s room (Err (offence.Word p)) b l w e = absurd (let z : ◌≡◌ {A = ℕ} 0 1 = cc in omega arith)
-sound-laid s room (Err (offence.Place p)) b l w e = absurd (let z : ◌≡◌ {A = ℕ} 0 1 = cc in omega arith)
-sound-laid s room (Err (offence.Byte p)) b l w e = absurd (let z : ◌≡◌ {A = ℕ} 0 1 = cc in omega arith)
+sound-laid s room (Err offence.Size) b l w e = cc
+sound-laid s room (Err (offence.Word p)) b l w e = cc
+sound-laid s room (Err (offence.Place p)) b l w e = cc
+sound-laid s room (Err (offence.Byte p)) b l w e = cc
 
 -- its text in the buffer, and its rows in the list, are those of the run
 record Back (s : List ℕ) (room k : ℕ) : Type 0 where

@@ -26,13 +26,13 @@ use Rattle.checks.proofs.Sound.{sound-sheeted}
 -- ---- an entry's number is below the number of parameters
 
 nth-below : (vs : List (List ℕ)) (n : ℕ) (v : List ℕ) → nth? vs n ≡ Some v → n < length vs
-nth-below [] n v e = absurd (let z : ◌≡◌ {A = ℕ} 0 1 = cc in omega arith)
+nth-below [] n v e = cc
 nth-below (x ∷ vs) zero v e = omega arith
 nth-below (x ∷ vs) (suc n) v e = let h = nth-below vs n v e in omega arith
 
 param-below : (ps : List Param) (n : ℕ) (v : List ℕ) → value_in (nth? ps n) ≡ Some v → n < length ps
 unfolding value_in
-param-below [] n v e = absurd (let z : ◌≡◌ {A = ℕ} 0 1 = cc in omega arith)
+param-below [] n v e = cc
 param-below (x ∷ ps) zero v e = omega arith
 param-below (x ∷ ps) (suc n) v e = let h = param-below ps n v e in omega arith
 
@@ -43,7 +43,7 @@ many (Named ps) = length ps
 
 value-below : (ps : QueryParams) (n : ℕ) (v : List ℕ) → value_at ps n ≡ Some v → n < many ps
 unfolding value_at
-value-below NoParams n v e = absurd (let z : ◌≡◌ {A = ℕ} 0 1 = cc in omega arith)
+value-below NoParams n v e = cc
 value-below (Indexed vs) n v e = nth-below vs n v e
 value-below (Named ps) n v e = param-below ps n v e
 
@@ -65,7 +65,7 @@ many-params s c = go (eqb (word_at s 16) 0) (eqb (word_at s 16) 1)
 
 module _ (ps : QueryParams) (few : many ps ≤ 256) where
   entry-few : (o : Option ℕ) → Found ps o → (n : ℕ) → o ≡ Some n → n < 4294967295
-  entry-few None f n e = absurd (let z : ◌≡◌ {A = ℕ} 0 1 = cc in omega arith)
+  entry-few None f n e = cc
   entry-few (Some m) f n e =
       let s : m ≡ n = cc in
       let h = value-below ps m f.0 f.1 in
