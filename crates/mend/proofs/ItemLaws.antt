@@ -10,6 +10,7 @@ use borrow.Author.Tests.{eq-eqb, ne_eqb}
 use borrow.Rule.Slice.PartMut.{put_mid}
 use Rattle.rules.specs.declared.Counts.{Counts}
 use Rattle.text.proofs.PutLaws.{drop-replicate}
+use Rattle.mended.proofs.Call.{length-rows}
 use Rattle.mended.specs.Mended.{Change, change_words}
 use Rattle.mend.specs.declared.Item.{Item}
 use Rattle.mend.specs.Items.{item_count, item_of, differs, changed_to, changed_in, row_of, report_of}
@@ -50,11 +51,6 @@ unfolding change_words
 words-append [] ys = refl
 words-append (x ∷ xs) ys = rw (words-append xs ys)
 
-pub length-words : (xs : List Change) → length (change_words xs) ≡ 3 * length xs
-unfolding change_words
-length-words [] = refl
-length-words (x ∷ xs) = omega (arith, length-words xs)
-
 pub report_begins : (s : List ℕ) (c : Counts) (d : List ℕ) → d ≡ replicate (length d) 0 → (0 ≡ 3 * length (changed_to s c 0)) × (d ≡ report_of (length d) (changed_to s c 0))
 unfolding changed_to report_of change_words
 report_begins s c d h = (refl, rw (sub-zero (length d)) h)
@@ -65,6 +61,6 @@ pub report_more : (room : ℕ) (xs : List Item) (x : Item) (d : List ℕ) (at k 
 unfolding report_of change_words
 report_more room xs x d at k ed ea ek l =
     let rows = change_words (map row_of xs) in
-    let long : length rows ≡ at = omega (arith, length-words (map row_of xs), length-map xs row_of) in
+    let long : length rows ≡ at = omega (arith, length-rows (map row_of xs), length-map xs row_of) in
     let rest : room - 3 * length xs - 3 ≡ room - 3 * length (xs ++ x ∷ []) = rw length-append (omega arith) in
     rw (ed, ek, take_at rows _ at long, drop_at rows _ at long, drop-replicate, rest, map-append, words-append, append_assoc)

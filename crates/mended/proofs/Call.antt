@@ -26,7 +26,7 @@ unfolding rows_in change_words
 rows_back [] rest = refl
 rows_back (x ∷ xs) rest = ap (λ (l : List Change). x ∷ l) (rows_back xs rest)
 
-length-rows : (rows : List Change) → length (change_words rows) ≡ 3 * length rows
+pub length-rows : (rows : List Change) → length (change_words rows) ≡ 3 * length rows
 unfolding change_words
 length-rows [] = refl
 length-rows (x ∷ xs) = omega (arith, length-rows xs)

@@ -1,9 +1,9 @@
 -- Each new number passes the tests of checks 2 and 3. Assumes nothing.
-use Rattle.std.proofs.Common.{◌≡◌, ℕ, zero, suc, ◌+◌, ◌<◌, Bool, true, false, List, refl, arith, add-zero}
+use Rattle.std.proofs.Common.{◌≡◌, ℕ, ◌+◌, ◌<◌, true, List, arith, add-zero}
 use Rattle.std.proofs.lemmas.Bool.Decides.{nat_tests}
 use lib.Dec.{leb}
 use Rattle.rules.specs.Words.{word_at, place_at}
-use Rattle.rules.specs.Checks.{mode_fits, packed_fits, key_afits, key_bfits, name_fits, in_body, key_in_body}
+use Rattle.rules.specs.Checks.{mode_fits, packed_fits, key_afits, key_bfits, name_fits, key_in_body}
 use Rattle.mended.specs.Mended.{mended_mode, or_default, mended_packed, place_word, key_word, mended_param}
 
 pub default-in : (most default w : ℕ) → leb default most ≡ true → leb (or_default most default w) most ≡ true
