@@ -12,6 +12,7 @@ use Rattle.rules.specs.Words.{word_at, place_at, params_at, body_at}
 use Rattle.rules.specs.Sheet.{body_part, key_read, name_of, params_of}
 use Rattle.rules.specs.Params.{advances, is_refused}
 use Rattle.tokens.specs.Placed.{Inside}
+use Rattle.records.specs.Sheeted.{Sheeted}
 use Rattle.params.specs.declared.Mode.{Mode}
 use Rattle.params.specs.declared.Found.{Found}
 use Rattle.params.specs.declared.Shown.{Shown}
@@ -23,6 +24,12 @@ mode_from w = if eqb w 0 then Mode.NoParams else if eqb w 1 then Mode.Indexed el
 -- a key's name, if it has one, lies in the bodies
 pub record KeyIn (s : List ℕ) (base : ℕ) (k : Option PlaceholderKind) : Type 0 where
   pub name_in : (p : Place) → k ≡ Some (key.Named p) → Inside s base p
+
+-- a token of a checked sheet, its places in the bodies
+pub record TokenIn (s : List ℕ) (c : Counts) (t : Token) : Type 0 where
+  pub sheeted : Sheeted s c
+  pub key_in : KeyIn s (body_at c) t.key
+  pub value_in : Inside s (body_at c) t.value
 
 -- ---- Named
 

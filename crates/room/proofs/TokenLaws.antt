@@ -18,9 +18,9 @@ use Rattle.rules.specs.Params.{advances}
 use Rattle.rules.specs.Rows.{lays_out}
 use Rattle.rules.specs.Room.{shown_by, counter_after}
 use Rattle.params.specs.declared.Shown.{Shown}
-use Rattle.params.specs.Entries.{shown_of}
+use Rattle.params.specs.Entries.{TokenIn, shown_of}
 use Rattle.params.proofs.Shows.{shown-bytes, shown-inside, shown-index}
-use Rattle.room.specs.Tallied.{TokenIn, Showing}
+use Rattle.room.specs.Tallied.{Showing}
 
 -- ---- kinds
 

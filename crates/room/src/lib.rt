@@ -12,7 +12,8 @@ ghost use Rattle.rules.specs.Room.{full_indent, room_laid_out, room as sum_of, r
 ghost use Rattle.tokens.specs.Placed.{Inside};
 ghost use Rattle.records.specs.Sheeted.{Sheeted};
 ghost use Rattle.ascii.specs.Part.{part};
-ghost use Rattle.room.specs.Tallied.{most, TokenIn, Showing, Tallied};
+ghost use Rattle.params.specs.Entries.{TokenIn};
+ghost use Rattle.room.specs.Tallied.{most, Showing, Tallied};
 
 use fmt_switch::Switch;
 use params::{Shown, get};
