@@ -184,7 +184,7 @@ cleared-here d k e = e ∙ rw (cleared-length d k e)
 pub record Keeping (s : List ℕ) (x : Context) (cap : ℕ) (b : Bool) (i : ℕ) (st : Code) (w : CodeSwitch) (q : List ℕ) (k : ℕ) (d : List ℕ) (count : ℕ) : Type 0 where
   pub long : length d ≡ k
   pub listed : Listed d count
-  pub None : b ≡ false → count ≡ 0
+  pub none : b ≡ false → count ≡ 0
   pub room : b ≡ true → 5 * count_from s x.base x.counts.tokens count i (switch_of w) ≤ k
   pub left : b ≡ true → rows_from_at (env_in s x cap) s x.base x.counts.tokens i (switch_of w) (state_of s x.base st q) (rows_in count d) ≡ rows (env_in s x cap) (tokens_of s x.counts)
 
@@ -196,7 +196,7 @@ keep-starts s x cap b st w q k d known begun e h z =
     record {
       long = l;
       listed = record { listed = record { words = z ∙ rw (l, sub-zero) }; order = tt };
-      None = λ f. refl;
+      none = λ f. refl;
       room = λ t. rw (e, known.base, count-all s x.counts) (h t);
       left = λ t. rw (begun.state s x.base, e, known.base) (sym (rows_all (env_in s x cap) s x.counts));
     }
@@ -294,7 +294,7 @@ module _ (s : List ℕ) (x : Context) (cap : ℕ) (b : Bool) (i : ℕ) (st : Cod
                 listed = rw em (words-after l l' count r.text.low c i entry r.text.low len same el);
                 order = rw taken-rows (order-after c r.text.low (row_of i entry r.text.low len) (rows_in count l) (λ t. refl) keep.listed.order);
               };
-              None = λ f. em ∙ rw (ec, f) (keep.none f);
+              none = λ f. em ∙ rw (ec, f) (keep.none f);
               room = λ t. rw turn.switch (rw (count_turn s x.base x.counts.tokens count i (switch_of w) here, counts t) at (keep.room t));
               left = λ t.
                   rw (turn.switch, stepped-is s x i st w d r u q cap run.room run.steady.held turn, rules-rows t)
