@@ -77,12 +77,13 @@ measure-both m (x ∷ xs) w = measure-both (one_on m x) xs w
 
 module _ (d : List ℕ) (start n i : ℕ) (h : start + n ≤ length d) (c : i < n) (a : ℕ) where
   -- a turn of the loop
-  pub by_byte : (b k m : ℕ) (r : Measure) → k ≡ column_after a (get_or d (start + i) 0) → m ≡ max k b → measure (record { at = a; best = b }) (drop i (part d start n)) ≡ r
+  pub by_byte : (b k m : ℕ) (r : Measure) → k ≡ column_after a (get_or d (start + i) 0) → m ≡ max b k → measure (record { at = a; best = b }) (drop i (part d start n)) ≡ r
       → measure (record { at = k; best = m }) (drop (i + 1) (part d start n)) ≡ r
   by_byte b k m r ek em e =
       let o : measure (record { at = a; best = b }) (drop i (part d start n)) ≡ measure (one_on (record { at = a; best = b }) (get_or d (start + i) 0)) (drop (i + 1) (part d start n)) =
       ap (measure (record { at = a; best = b })) (part-next d start n i h c) in
-      rw (em, ek) (sym o ∙ e)
+      let f : m ≡ max k b = omega (arith, em) in
+      rw (f, ek) (sym o ∙ e)
 
 -- ---- bytes without a tab or a line feed
 

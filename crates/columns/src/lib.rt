@@ -39,6 +39,7 @@ fn column_after(at: usize, b: u8) -> usize
 }
 
 // A byte at a time: each column hangs on the one before it.
+#[tactic(auto, using(crate::proofs::MeasureLaws::by_byte))]
 fn measured(text: &[u8], start: usize, n: usize, m: Measure) -> Measure
     requires { (start + n ≤ length text.now) × (m.at + 8 * n < 2 ^ 63) }
     ensures { result ≡ measure m (part text.now start n) }
