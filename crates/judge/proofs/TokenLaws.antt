@@ -22,9 +22,8 @@ use Rattle.rules.specs.Room.{counter_after}
 use Rattle.rules.specs.Due.{strip}
 use Rattle.places.proofs.Laws.{list_next, list_end}
 use Rattle.switched.proofs.Count.{when-most}
-use Rattle.matching.specs.declared.Reached.{Reached}
-use Rattle.matching.specs.Read.{read_to, reached_of}
-use Rattle.matching.proofs.Laws.{reached-all, reached-left}
+use Rattle.matching.specs.Read.{read_to}
+use Rattle.matching.proofs.Laws.{reached-some, reached-none}
 use Rattle.foreign.specs.declared.Verdict.{Verdict}
 use Rattle.foreign.specs.Foreign.{begins, compared}
 use Rattle.foreign.specs.Walk.{barred_from, walk}
@@ -89,7 +88,7 @@ module _ (s : List ℕ) (c : Counts) (text : List ℕ) where
       walking_more e n en = rw (ended l, ← h, e) (ap (λ (m : ℕ). Verdict.No m) (let k = inv.within in omega arith))
 
     module _ (l : i < c.tokens) (base : ℕ) (eb : base ≡ body_at c) (t : Token) (et : t ≡ token_at s i) (u : Turn) (eu : u ≡ turn_of w (token_of s base i).kind (token_of s base i).value)
-        (d : Due) (is-due : DueIn s c u t index d) (r : Reached) (er : r ≡ reached_of (read_to (strip (in_case d.casing (body_part s (body_at c) d.place))) at (drop at text))) where
+        (d : Due) (is-due : DueIn s c u t index d) (r : Option ℕ) (er : r ≡ read_to (strip (in_case d.casing (body_part s (body_at c) d.place))) at (drop at text)) where
       abbrev shown : List ℕ
       shown = strip (in_case d.casing (body_part s (body_at c) d.place))
 
@@ -97,21 +96,21 @@ module _ (s : List ℕ) (c : Counts) (text : List ℕ) where
       unfolding walk env_of
       onward = sym inv.left ∙ rw (list_next (token_of s (body_at c)) i c.tokens l, is-due.bytes, is-due.counter, eu, et, eb, add-one)
 
-      pub walking_no : r.all ≡ false → Verdict.No i ≡ whole
-      walking_no e = rw (onward, ← reached-all shown text at inv.at_in r er, e)
+      pub walking_no : r ≡ None → Verdict.No i ≡ whole
+      walking_no e = rw (onward, reached-none shown text at inv.at_in r er e)
 
-      pub walking_on : r.all ≡ true → (x : Switch) → x ≡ switch_after u w → Walking r.at d.index (i + 1) x
+      pub walking_on : (end : ℕ) → r ≡ Some end → (x : Switch) → x ≡ switch_after u w → Walking end d.index (i + 1) x
       unfolding counter_after
-      walking_on e x ex =
+      walking_on end e x ex =
           let f = inv.few in
           let k = is-due.counter in
           let m = when-most (lays_out u t.kind && advances (params_of s c) (token_read s (body_at c) t).key) index in
-          let past = reached-left shown text at inv.at_in r er e in
+          let past = reached-some shown text at inv.at_in r er end e in
           record {
             few = omega arith;
             within = omega arith;
-            at_in = past.1;
-            left = rw (ex, past.0) (sym (rw (← reached-all shown text at inv.at_in r er, e) at onward));
+            at_in = past.1.1;
+            left = rw (ex, past.1.0) (sym (rw past.0 at onward));
           }
 
 pub ruleset walking = (walking_begins, walking_yes, walking_more)

@@ -13,7 +13,7 @@ ghost use Rattle.rules.specs.Switch.{switched_on};
 ghost use Rattle.rules.specs.Due.{strip, role_of};
 ghost use Rattle.tokens.specs.Placed.{Inside};
 ghost use Rattle.records.specs.Sheeted.{Sheeted};
-ghost use Rattle.matching.specs.Read.{read_to, reached_of};
+ghost use Rattle.matching.specs.Read.{read_to};
 ghost use Rattle.foreign.specs.Foreign.{compared, judge_tokens, judge as verdict_of, judged_of};
 ghost use Rattle.foreign.specs.Walk.{barred_from};
 ghost use Rattle.judge.specs.declared.Form.TheVariants as form;
@@ -21,9 +21,9 @@ ghost use Rattle.params.specs.Entries.{TokenIn};
 ghost use Rattle.judge.specs.Asked.{form_of, DueIn};
 
 use fmt_switch::Switch;
-use foreign::{Judged, Verdict};
+use foreign::{Judged, Refusal, Verdict};
 use keeps::case_for;
-use matching::{Reached, low_bytes, only_white, reach};
+use matching::{first_high, only_white, reach};
 use params::{get, offends};
 use records::{body_at, options_of};
 use rules::{Case, Counts, Place, Token, TokenKind, Turn};
@@ -159,9 +159,9 @@ fn due_of(sheet: &[u8], c: Counts, casing: Case, turn: Turn, t: Token, index: u3
 // ---- the text
 
 #[tactic(auto, unfolding(rules::specs::Sheet::body_part))]
-fn reach_due(sheet: &[u8], c: Counts, due: Due, text: &[u8], from: usize) -> Reached
+fn reach_due(sheet: &[u8], c: Counts, due: Due, text: &[u8], from: usize) -> Option<usize>
     requires { (Sheeted sheet.now c) × (Inside sheet.now (body_at c) due.place) × (from ≤ length text.now) }
-    ensures { result ≡ reached_of (read_to (strip (in_case due.casing (body_part sheet.now (body_at c) due.place))) from (drop from text.now)) }
+    ensures { result ≡ read_to (strip (in_case due.casing (body_part sheet.now (body_at c) due.place))) from (drop from text.now) }
 {
     let start = body_at(c) + to_usize(due.place.start);
     let n = to_usize(due.place.len);
@@ -182,11 +182,10 @@ fn compare(sheet: &[u8], c: Counts, text: &[u8]) -> Verdict
         let t = token_at(sheet, i);
         let turn = turn_at(sheet, base, i, switch, t.kind);
         let due = due_of(sheet, c, casing, turn, t, index);
-        let one = reach_due(sheet, c, due, text, at);
-        if !one.all {
+        let Some(end) = reach_due(sheet, c, due, text, at) else {
             return Verdict::No(i);
-        }
-        at = one.at;
+        };
+        at = end;
         index = due.index;
         switch = switch.after(turn);
     }
@@ -199,69 +198,31 @@ fn compare(sheet: &[u8], c: Counts, text: &[u8]) -> Verdict
 // ---- the whole
 
 // A sheet that checks 1 to 4 found sound.
-#[tactic(auto, using(crate::proofs::CallLaws::parts), unfolding(foreign::specs::Foreign::judge_tokens, foreign::specs::Foreign::unless_at))]
-fn judge_sound(sheet: &[u8], c: Counts, text: &[u8]) -> Verdict
+#[tactic(auto, using(crate::proofs::CallLaws::barred_is), unfolding(foreign::specs::Foreign::judge_tokens, foreign::specs::Foreign::unless_at))]
+fn judge_sound(sheet: &[u8], c: Counts, text: &[u8]) -> Result<Verdict, Refusal>
     requires { Sheeted sheet.now c }
     ensures { result ≡ judge_tokens (params_of sheet.now c) (keeps_of sheet.now c) (options_of sheet.now).casing (tokens_of sheet.now c) text.now }
 {
     if let Some(i) = first_barred(sheet, c) {
-        return Verdict::Refused {
-            number: 5,
-            place: i,
-        };
+        return Err(Refusal::Number(i));
     }
-    let low = low_bytes(text);
-    if low < text.len() {
-        return Verdict::Refused {
-            number: 15,
-            place: low,
-        };
+    if let Some(at) = first_high(text) {
+        return Err(Refusal::High(at));
     }
-    compare(sheet, c, text)
+    Ok(compare(sheet, c, text))
 }
 
 #[tactic(auto, using(crate::proofs::CallLaws::sound), unfolding(foreign::specs::Foreign::judge, foreign::specs::Foreign::judge_as))]
-fn verdict(sheet: &[u8], text: &[u8]) -> Verdict
+fn verdict(sheet: &[u8], text: &[u8]) -> Result<Verdict, Refusal>
     ensures { result ≡ verdict_of sheet.now text.now }
 {
-    match checks::check(sheet) {
-        Ok(c) => judge_sound(sheet, c, text),
-        Err(offence) => Verdict::Refused {
-            number: offence.number(),
-            place: offence.place(),
-        },
-    }
-}
-
-#[tactic(auto, unfolding(foreign::specs::Foreign::judged_of))]
-fn in_numbers(v: Verdict) -> Judged
-    ensures { result ≡ judged_of v }
-{
-    match v {
-        Verdict::Yes => Judged {
-            refusal: 0,
-            place: 0,
-            matches: 1,
-            token: 0,
-        },
-        Verdict::No(i) => Judged {
-            refusal: 0,
-            place: 0,
-            matches: 0,
-            token: i as u64,
-        },
-        Verdict::Refused { number, place } => Judged {
-            refusal: number,
-            place: place as u64,
-            matches: 0,
-            token: 0,
-        },
-    }
+    let c = checks::check(sheet)?;
+    judge_sound(sheet, c, text)
 }
 
 // Of any bytes.
 pub fn judge(sheet: &[u8], text: &[u8]) -> Judged
     ensures { result ≡ judged_of (verdict_of sheet.now text.now) }
 {
-    in_numbers(verdict(sheet, text))
+    Judged::from(verdict(sheet, text))
 }
