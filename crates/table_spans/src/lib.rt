@@ -11,6 +11,7 @@ ghost use Rattle.table_spans.specs.Filling.{ReadFrom, Rows};
 use ahead::sort_at;
 use around::value_len;
 use rules::Sort;
+use table::put_two;
 use tokens::to_usize;
 
 // What the reading gives of the tokens from one on, started at their own level. Its arguments are the commas of that level, and one more where
@@ -149,19 +150,15 @@ fn marks(f: Rests) -> u32
     (f.others * 4 + firsts) * 2048 + f.close as u32
 }
 
+#[tactic(auto, using(crate::proofs::RowLaws::row_put))]
 fn put_row(table: &mut [u32], i: usize, f: Rests)
     requires few_rests { FewRests f }
     requires i_in_bounds { 6 * i + 6 ≤ length table.old }
     ensures { table.new ≡ with_row table.old i f }
 {
-    table[6 * i..6 * i + 6].copy_from_slice(&[
-        f.inner.full,
-        counts(f.inner),
-        f.outer.full,
-        counts(f.outer),
-        f.total,
-        marks(f),
-    ]);
+    put_two(table, i, 0, f.inner.full, counts(f.inner));
+    put_two(table, i, 2, f.outer.full, counts(f.outer));
+    put_two(table, i, 4, f.total, marks(f));
 }
 
 fn rest_of(full: u32, counts: u32, first: u32) -> Rest
