@@ -1,5 +1,4 @@
 -- The layout calls by what the checks found. Assumes nothing.
-use Rattle.rules.specs.declared.Offence.TheVariants as offence
 use Rattle.rules.specs.declared.Offence.{Offence}
 use mathlib.Core.Path.{◌≡◌, refl, sym, subst, ap, ◌∙◌}
 use mathlib.Core.Bool.{Bool, true, false, ◌&&◌}
@@ -12,7 +11,7 @@ use lib.ListN.{length, replicate, drop_of_length-le, length-replicate}
 use Rattle.rules.specs.declared.Report.{Report}
 use Rattle.rules.specs.declared.Counts.{Counts}
 use Rattle.rules.specs.Sheet.{env_of, tokens_of}
-use Rattle.rules.specs.Checks.{checked}
+use Rattle.rules.specs.Checks.{checked, number_of, place_of}
 use Rattle.rules.specs.Answer.{refusal, is_withdrawn, answer_as, answer, format, report_of, buffer_of, reported, buffer_after}
 use Rattle.std.specs.Prelude.{if◌then◌else◌, Err, Ok, Result}
 use Rattle.rules.specs.Rows.{rows, placeholders, to_lay_out, is_short, listed_as, listed, list_for, list_as, listed_report, listed_buffer, list_after}
@@ -58,26 +57,9 @@ by-found s room b k f c r out list e g h = subst (λ (z : Result Counts Offence)
 
 -- ---- refusals 1 to 4
 
-module _ (s : List ℕ) (room : ℕ) (b : Bool) (k : ℕ) (r : Report) (out list : List ℕ) (zero : list ≡ replicate k 0) where
-  module _ (n p : ℕ) (told : r ≡ report_of (refusal n p)) (left : out ≡ buffer_of room (refusal n p)) where
-    by-refusal : (c : Result Counts Offence) → called_as s room b k c ≡ refusal n p → list_called s room b k c ≡ replicate k 0 → Told s room b k c r out list
-    by-refusal c e f = (rw e told, (rw e left, rw f zero))
-
-  pub by_size : r ≡ report_of (refusal 1 0) → out ≡ buffer_of room (refusal 1 0) → Told s room b k (Err offence.Size) r out list
-  unfolding called_as list_called listed_as answer_as list_as is_short
-  by_size e f = by-refusal 1 0 e f (Err offence.Size) (either b) (either b)
-
-  pub by_word : (p : ℕ) → r ≡ report_of (refusal 2 p) → out ≡ buffer_of room (refusal 2 p) → Told s room b k (Err (offence.Word p)) r out list
-  unfolding called_as list_called listed_as answer_as list_as is_short
-  by_word p e f = by-refusal 2 p e f (Err (offence.Word p)) (either b) (either b)
-
-  pub by_place : (p : ℕ) → r ≡ report_of (refusal 3 p) → out ≡ buffer_of room (refusal 3 p) → Told s room b k (Err (offence.Place p)) r out list
-  unfolding called_as list_called listed_as answer_as list_as is_short
-  by_place p e f = by-refusal 3 p e f (Err (offence.Place p)) (either b) (either b)
-
-  pub by_byte : (p : ℕ) → r ≡ report_of (refusal 4 p) → out ≡ buffer_of room (refusal 4 p) → Told s room b k (Err (offence.Byte p)) r out list
-  unfolding called_as list_called listed_as answer_as list_as is_short
-  by_byte p e f = by-refusal 4 p e f (Err (offence.Byte p)) (either b) (either b)
+pub by-offence : (s : List ℕ) (room : ℕ) (b : Bool) (k : ℕ) (o : Offence) (n p : ℕ) (r : Report) (out list : List ℕ) → n ≡ number_of o → p ≡ place_of o → r ≡ report_of (refusal n p) → out ≡ buffer_of room (refusal n p) → list ≡ replicate k 0 → Told s room b k (Err o) r out list
+unfolding called_as list_called listed_as answer_as list_as is_short
+by-offence s room b k o n p r out list g h told left zero = (rw (either b, sym g, sym h) told, (rw (either b, sym g, sym h) left, rw (either b) zero))
 
 -- ---- a sound sheet
 

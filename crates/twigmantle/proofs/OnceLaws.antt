@@ -1,5 +1,4 @@
 -- The layout calls with a table: 12, or the plain call's answer. Assumes nothing.
-use Rattle.rules.specs.declared.Offence.TheVariants as offence
 use Rattle.rules.specs.declared.Offence.{Offence}
 use Rattle.std.specs.Prelude.{Err, Ok, Result}
 use mathlib.Core.Path.{◌≡◌, refl, sym, subst, ap, ◌∙◌}
@@ -51,21 +50,9 @@ module _ (s : List ℕ) (room : ℕ) (b : Bool) (k : ℕ) (t : Bool) (m : ℕ) (
   never true = refl
   never false = refl
 
-  pub once-size : Told s room b k (Err offence.Size) r out list → Tabled s room b k t m (Err offence.Size) r out list
+  pub once-offence : (o : Offence) → Told s room b k (Err o) r out list → Tabled s room b k t m (Err o) r out list
   unfolding lacks_table
-  once-size h = by-plain (Err offence.Size) (never t) h
-
-  pub once-word : (p : ℕ) → Told s room b k (Err (offence.Word p)) r out list → Tabled s room b k t m (Err (offence.Word p)) r out list
-  unfolding lacks_table
-  once-word p h = by-plain (Err (offence.Word p)) (never t) h
-
-  pub once-place : (p : ℕ) → Told s room b k (Err (offence.Place p)) r out list → Tabled s room b k t m (Err (offence.Place p)) r out list
-  unfolding lacks_table
-  once-place p h = by-plain (Err (offence.Place p)) (never t) h
-
-  pub once-byte : (p : ℕ) → Told s room b k (Err (offence.Byte p)) r out list → Tabled s room b k t m (Err (offence.Byte p)) r out list
-  unfolding lacks_table
-  once-byte p h = by-plain (Err (offence.Byte p)) (never t) h
+  once-offence o h = by-plain (Err o) (never t) h
 
   module _ (c : Counts) where
     -- 14 is given, and neither 12 nor 10 comes before it
