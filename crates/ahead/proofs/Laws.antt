@@ -2,24 +2,17 @@
 use mathlib.Core.Bool.{Bool, true, false}
 use mathlib.Core.Path.{◌≡◌, refl, ap, sym, ◌∙◌}
 use mathlib.Core.List.{List, [], ◌∷◌}
-use Prim.Native.Nat.{ℕ, ◌+◌, ◌-◌, ◌≤◌, ◌<◌, min}
+use Prim.Native.Nat.{ℕ, ◌+◌, ◌-◌, ◌≤◌, ◌<◌}
 use native.Mathlib.Omega.{arith}
 use lib.ListN.{length}
-use borrow.Author.Tests.{eq-eqb, ne_eqb, lt-ltb, le-ltb}
-use types.Run.{OneOf, miss}
-use denote.Enum.Declared as Declared
-use Rattle.rules.specs.contracts.TokenKind as kinds
-use Rattle.rules.specs.contracts.Sort as sorts
 use Rattle.rules.specs.declared.TokenKind.{TokenKind}
-use Rattle.rules.specs.declared.TokenKind.TheVariants as kind
 use Rattle.rules.specs.declared.Sort.{Sort}
-use Rattle.rules.specs.declared.Sort.TheVariants as sort
 use Rattle.rules.specs.declared.Scan.{Scan}
 use Rattle.rules.specs.Bytes.{bytes}
 use Rattle.rules.specs.Base.{same}
 use Rattle.rules.specs.Tokens.{Token}
 use Rattle.rules.specs.Sheet.{token_of, tokens_from, here_at}
-use Rattle.rules.specs.Span.{sort_of, sort_in, stops_at, counted_in, scan, unread, span_limit}
+use Rattle.rules.specs.Span.{sort_of, sort_in, stops_at, counted_in, scan, unread}
 use Rattle.around.specs.Readable.{Readable}
 use Rattle.around.proofs.Lists.{tokens-step, tokens_none, readable_length}
 use Rattle.ahead.specs.Small.{Small}
@@ -31,50 +24,6 @@ module _ (t : Token) (k : TokenKind) (is : k ≡ t.kind) where
   pub by-sort : (v : TokenKind) → k ≡ v → sort_of v (same t.value (bytes ";")) (same t.value (bytes ",")) ≡ sort_in t
   unfolding sort_in
   by-sort v e = ap (λ (x : TokenKind). sort_of x (same t.value (bytes ";")) (same t.value (bytes ","))) (sym e ∙ is)
-
--- the kinds that the match leaves to its last arm
-left_over : List ℕ
-left_over = 0 ∷ 2 ∷ 3 ∷ 6 ∷ 11 ∷ 12 ∷ 13 ∷ 14 ∷ 15 ∷ 16 ∷ []
-
-other-sort : (k : TokenKind) (s c : Bool) → OneOf left_over (Declared.tag_of kinds.the_type k) → sort.Other ≡ sort_of k s c
-unfolding left_over
-other-sort kind.TypeSpecifier s c h = refl
-other-sort kind.Whitespace s c h = absurd (miss left_over 1 tt h)
-other-sort kind.String s c h = refl
-other-sort kind.Reserved s c h = refl
-other-sort kind.ReservedTopLevel s c h = absurd (miss left_over 4 tt h)
-other-sort kind.ReservedTopLevelNoIndent s c h = absurd (miss left_over 5 tt h)
-other-sort kind.ReservedNewline s c h = refl
-other-sort kind.ReservedNewlineAfter s c h = absurd (miss left_over 7 tt h)
-other-sort kind.Operator s c h = absurd (miss left_over 8 tt h)
-other-sort kind.OpenParen s c h = absurd (miss left_over 9 tt h)
-other-sort kind.CloseParen s c h = absurd (miss left_over 10 tt h)
-other-sort kind.LineComment s c h = refl
-other-sort kind.BlockComment s c h = refl
-other-sort kind.Number s c h = refl
-other-sort kind.Placeholder s c h = refl
-other-sort kind.Word s c h = refl
-other-sort kind.Join s c h = refl
-
-pub by-other : (t : Token) (k : TokenKind) → k ≡ t.kind → OneOf (0 ∷ 2 ∷ 3 ∷ 6 ∷ 11 ∷ 12 ∷ 13 ∷ 14 ∷ 15 ∷ 16 ∷ []) (Declared.tag_of kinds.the_type k) → sort.Other ≡ sort_in t
-unfolding left_over
-by-other t k is h = other-sort k (same t.value (bytes ";")) (same t.value (bytes ",")) h ∙ by-sort t k is k refl
-
--- ---- what a token adds, where the match leaves it to its last arm
-
-plain : List ℕ
-plain = 2 ∷ 4 ∷ []
-
-pub by-plain : (o len : ℕ) (x : Sort) (a : Scan) → OneOf (2 ∷ 4 ∷ []) (Declared.tag_of sorts.the_type x)
-    → record { level = a.level; full_span = a.full_span + len; blocks = a.blocks; arguments = a.arguments } ≡ counted_in o x len a
-unfolding plain
-by-plain o len sort.Open a h = absurd (miss plain 0 tt h)
-by-plain o len sort.Close a h = absurd (miss plain 1 tt h)
-by-plain o len sort.Head a h = refl
-by-plain o len sort.White a h = absurd (miss plain 3 tt h)
-by-plain o len sort.Semicolon a h = refl
-by-plain o len sort.Comma a h = absurd (miss plain 5 tt h)
-by-plain o len sort.Other a h = absurd (miss plain 6 tt h)
 
 -- ---- one token of the reading
 
@@ -97,18 +46,8 @@ pub record Reading (s : List ℕ) (base n i o : ℕ) (a : Scan) (j : ℕ) : Type
   pub small : Small o (j - (i + 1)) a
   pub same_end : scan o (tokens_from s base j (n - j)) a ≡ scan o (here_at s base n i).after (unread o)
 
-pub reading_starts : (s : List ℕ) (base n i o : ℕ) → i < n → Reading s base n i o (unread o) (i + 1)
-reading_starts s base n i o h = record { past = omega arith; up_to = omega arith; small = record { level = omega arith; full-span = omega arith; blocks = omega arith; arguments = omega arith }; same_end = refl }
-
 pub reading_ends : (s : List ℕ) (base n i o : ℕ) (a : Scan) (j : ℕ) → Reading s base n i o a j → n ≤ j → a ≡ scan o (here_at s base n i).after (unread o)
 reading_ends s base n i o a j r l = sym (scan-none o a) ∙ (rw (tokens_none s base j n l) at r.same_end)
-
-pub reading_small : (s : List ℕ) (base n i o : ℕ) (a : Scan) (j : ℕ) → Readable s base n → Reading s base n i o a j → o ≤ 1024 → Small 1024 1024 a
-reading_small s base n i o a j q r h =
-    let f = q.placed.few in
-    let u = r.up_to in
-    let b = r.small in
-    record { level = omega arith; full-span = omega arith; blocks = omega arith; arguments = omega arith }
 
 module _ (s : List ℕ) (base n i o : ℕ) (a : Scan) (j : ℕ) (r : Reading s base n i o a j) (h : j < n) (x : Sort) (b : Bool) (is : x ≡ sort_in (token_of s base j)) (at-stop : b ≡ stops_at o x a.level) where
   left : scan o (token_of s base j ∷ tokens_from s base (j + 1) (n - (j + 1))) a ≡ scan o (here_at s base n i).after (unread o)
@@ -131,15 +70,3 @@ module _ (s : List ℕ) (base n i o : ℕ) (a : Scan) (j : ℕ) (r : Reading s b
         small = rw (k, c) (grows o (j - (i + 1)) l x a r.small (readable_length s base n j l q h m));
         same_end = rw w (sym (scan-go o (token_of s base j) (tokens_from s base (j + 1) (n - (j + 1))) a (stop_as ∙ t)) ∙ left);
       }
-
--- ---- the limit of a span
-
-module _ (limit most arguments : ℕ) where
-  pub by-one-argument : arguments ≤ 1 → limit ≡ span_limit limit most arguments
-  by-one-argument h = rw (le-ltb 1 arguments h)
-
-  pub by-no-limit : 1 < arguments → most ≡ 0 → limit ≡ span_limit limit most arguments
-  by-no-limit h z = rw (lt-ltb 1 arguments h, eq-eqb most 0 z)
-
-  pub by-smaller : 1 < arguments → (most ≡ 0 → ⊥) → span_limit limit most arguments ≡ min most limit
-  by-smaller h z = rw (lt-ltb 1 arguments h, ne_eqb most 0 z)

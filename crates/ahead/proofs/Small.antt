@@ -9,10 +9,9 @@ use lib.ListN.{length}
 use Rattle.rules.specs.declared.Sort.{Sort}
 use Rattle.rules.specs.declared.Sort.TheVariants as sort
 use Rattle.rules.specs.declared.Scan.{Scan}
-use Rattle.rules.specs.declared.FormatOptions.{FormatOptions}
 use Rattle.std.specs.Prelude.{if◌then◌else◌}
 use Rattle.rules.specs.Sheet.{list_of, token_of, tokens_from, here_at}
-use Rattle.rules.specs.Span.{sort_in, stops_at, counted_in, scan, unread, top_level_tokens_info}
+use Rattle.rules.specs.Span.{sort_in, stops_at, counted_in, scan, unread}
 use Rattle.around.specs.Readable.{Readable}
 use Rattle.around.proofs.Lists.{readable_length}
 use Rattle.ahead.specs.Small.{Small}
@@ -57,8 +56,3 @@ read_small s base n i o r h =
     let f = r.placed.few in
     let b = scan-small s base n o (n - (i + 1)) (i + 1) 0 (unread o) r (omega arith) (record { level = omega arith; full-span = omega arith; blocks = omega arith; arguments = omega arith }) in
     widens o (0 + (n - (i + 1))) 1024 _ (omega arith) b
-
--- a span is at most 64 MiB long, so that a length can be added to it
-pub span-short : (op : FormatOptions) (s : List ℕ) (base n i level block_len : ℕ) → Readable s base n → i < n → (top_level_tokens_info op level block_len (here_at s base n i).after).full_span ≤ 67108864
-unfolding top_level_tokens_info
-span-short op s base n i level block_len r h = (read_small s base n i level r h).full-span

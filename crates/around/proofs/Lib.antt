@@ -2,4 +2,5 @@ pub mod Run
 pub mod Readable
 pub mod Lists
 pub mod Values
+pub mod Asked
 pub mod Neighbours

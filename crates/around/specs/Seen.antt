@@ -1,15 +1,8 @@
 -- The kind of a token that may be missing.
-use Rattle.std.proofs.Math.Option.{Option, none, some}
-use Rattle.std.specs.Prelude.{ℕ}
-use Rattle.rules.specs.Tokens.{Token, kind_no}
-use Rattle.around.specs.declared.Seen.{Seen}
-use Rattle.around.specs.declared.Seen.TheVariants as seen
+use Rattle.std.specs.Prelude.{Option}
+use Rattle.std.specs.Option.{option_map}
+use Rattle.rules.specs.declared.TokenKind.{TokenKind}
+use Rattle.rules.specs.Tokens.{Token}
 
-abbrev pub seen_of : Option Token → Seen
-seen_of none = seen.Nothing
-seen_of (some t) = seen.Kind t.kind
-
--- its number; 17, which is no kind's, where it is missing
-abbrev pub seen_no : Seen → ℕ
-seen_no (seen.Kind k) = kind_no k
-seen_no seen.Nothing = 17
+abbrev pub seen_of : Option Token → Option TokenKind
+seen_of o = option_map (λ t. t.kind) o

@@ -4,27 +4,20 @@
 ghost use Rattle.std.specs.Prelude.{◌≡◌, [], ◌∷◌, ◌<◌, eqb, length};
 ghost use Rattle.rules.specs.declared.TokenKind.TheVariants.{Reserved, ReservedTopLevel, ReservedNewline, ReservedNewlineAfter};
 ghost use Rattle.rules.specs.Base.{same, any_of, holds};
-ghost use Rattle.rules.specs.Tokens.{kind_no};
 ghost use Rattle.rules.specs.Sheet.{token_of, here_at};
 ghost use Rattle.rules.specs.Formatter.{kind_is, kind_in, previous_token, previous_non_whitespace_token, next_non_whitespace_token, white_then_no_operator, after_line_feed, two_after_comma, after_line_comment, cuts_before, blank_between};
 ghost use Rattle.tokens.specs.Placed.{Within};
 ghost use Rattle.around.specs.Readable.{Readable};
-ghost use Rattle.around.specs.Seen.{seen_of, seen_no};
+ghost use Rattle.around.specs.Seen.{seen_of};
 
 use ascii::find;
 use rules::TokenKind;
 use tokens::{kind_at, to_usize, value_at, word_at};
 
-// The kind of a token that may be missing.
-#[derive(Drop)]
-pub enum Seen {
-    Kind(TokenKind),
-    Nothing,
-}
-
 // ---- a token's value
 
 // It reads no more of the record than the length.
+#[tactic(auto, using(crate::proofs::Values::length_read))]
 pub fn value_len(sheet: &[u8], base: usize, i: usize) -> u32
     requires { Within sheet.now base i }
     ensures { result ≡ length (token_of sheet.now base i).value }
@@ -33,6 +26,7 @@ pub fn value_len(sheet: &[u8], base: usize, i: usize) -> u32
 }
 
 // The value is the one byte b.
+#[tactic(auto, using(crate::proofs::Values::one))]
 pub fn is_byte(sheet: &[u8], base: usize, i: usize, b: u8) -> bool
     requires { Within sheet.now base i }
     ensures { result ≡ same (token_of sheet.now base i).value (b ∷ []) }
@@ -45,6 +39,7 @@ pub fn is_byte(sheet: &[u8], base: usize, i: usize, b: u8) -> bool
     sheet[at] == b
 }
 
+#[tactic(auto, using(crate::proofs::Values::value_inside, crate::proofs::Values::feed_found))]
 fn has_line_feed(sheet: &[u8], base: usize, i: usize) -> bool
     requires { Within sheet.now base i }
     ensures { result ≡ any_of (eqb 10) (token_of sheet.now base i).value }
@@ -55,145 +50,115 @@ fn has_line_feed(sheet: &[u8], base: usize, i: usize) -> bool
     find(sheet, start, n, b'\n') < n
 }
 
-// ---- kinds as numbers, which are compared at once
-
-fn kind_no(kind: TokenKind) -> u32
-    ensures { result ≡ kind_no kind }
-{
-    match kind {
-        TokenKind::TypeSpecifier => 0,
-        TokenKind::Whitespace => 1,
-        TokenKind::String => 2,
-        TokenKind::Reserved => 3,
-        TokenKind::ReservedTopLevel => 4,
-        TokenKind::ReservedTopLevelNoIndent => 5,
-        TokenKind::ReservedNewline => 6,
-        TokenKind::ReservedNewlineAfter => 7,
-        TokenKind::Operator => 8,
-        TokenKind::OpenParen => 9,
-        TokenKind::CloseParen => 10,
-        TokenKind::LineComment => 11,
-        TokenKind::BlockComment => 12,
-        TokenKind::Number => 13,
-        TokenKind::Placeholder => 14,
-        TokenKind::Word => 15,
-        TokenKind::Join => 16,
-    }
-}
-
-fn seen_no(seen: Seen) -> u32
-    ensures { result ≡ seen_no seen }
-{
-    match seen {
-        Seen::Kind(kind) => kind_no(kind),
-        Seen::Nothing => 17,
-    }
-}
-
-fn one_of(k: u32, a: u32, b: u32, c: u32) -> bool
-    ensures { result ≡ any_of (eqb k) (a ∷ b ∷ c ∷ []) }
-{
-    if k == a {
-        return true;
-    }
-    if k == b {
-        return true;
-    }
-    k == c
-}
-
 // ---- the neighbours of token i of n
 
-pub fn previous_token(sheet: &[u8], base: usize, n: usize, i: usize) -> Seen
+#[tactic(auto, using(crate::proofs::Neighbours::no_previous, crate::proofs::Neighbours::previous))]
+pub fn previous_token(sheet: &[u8], base: usize, n: usize, i: usize) -> Option<TokenKind>
     requires readable { Readable sheet.now base n }
     requires i_lt_n { i < n }
     ensures { result ≡ seen_of (previous_token (here_at sheet.now base n i)) }
 {
     if i == 0 {
-        return Seen::Nothing;
+        return None;
     }
-    let kind = kind_at(sheet, i - 1);
-    Seen::Kind(kind)
+    Some(kind_at(sheet, i - 1))
 }
 
-pub fn previous_non_whitespace_token(sheet: &[u8], base: usize, n: usize, i: usize) -> Seen
+#[tactic(auto, using(crate::proofs::Neighbours::backward))]
+pub fn previous_non_whitespace_token(
+    sheet: &[u8],
+    base: usize,
+    n: usize,
+    i: usize,
+) -> Option<TokenKind>
     requires readable { Readable sheet.now base n }
     requires i_lt_n { i < n }
     ensures { result ≡ seen_of (previous_non_whitespace_token (here_at sheet.now base n i)) }
 {
-    let mut j = i;
-    while 0 < j {
-        let last = kind_at(sheet, j - 1);
-        if kind_no(last) != 1 {
-            return Seen::Kind(last);
+    for j in (0..i).rev() {
+        let last = kind_at(sheet, j);
+        if last != TokenKind::Whitespace {
+            return Some(last);
         }
-        j -= 1;
     }
-    Seen::Nothing
+    None
 }
 
-pub fn next_non_whitespace_token(sheet: &[u8], base: usize, n: usize, i: usize) -> Seen
+#[tactic(auto, using(crate::proofs::Neighbours::onward))]
+pub fn next_non_whitespace_token(sheet: &[u8], base: usize, n: usize, i: usize) -> Option<TokenKind>
     requires readable { Readable sheet.now base n }
     requires i_lt_n { i < n }
     ensures { result ≡ seen_of (next_non_whitespace_token (here_at sheet.now base n i)) }
 {
-    let mut j = i + 1;
-    while j < n {
+    for j in i + 1..n {
         let kind = kind_at(sheet, j);
-        if kind_no(kind) != 1 {
-            return Seen::Kind(kind);
+        if kind != TokenKind::Whitespace {
+            return Some(kind);
         }
-        j += 1;
     }
-    Seen::Nothing
+    None
 }
 
 // ---- what the rules ask of them
 
+#[tactic(auto, using(crate::proofs::Asked::seen_is), unfolding(rules::specs::Formatter::after_line_comment))]
 pub fn after_line_comment(sheet: &[u8], base: usize, n: usize, i: usize) -> bool
     requires readable { Readable sheet.now base n }
     requires i_lt_n { i < n }
     ensures { result ≡ after_line_comment (here_at sheet.now base n i) }
 {
     let seen = previous_non_whitespace_token(sheet, base, n, i);
-    seen_no(seen) == 11
+    matches!(seen, Some(TokenKind::LineComment))
 }
 
+#[tactic(auto, using(crate::proofs::Asked::seen_is))]
 pub fn after_top_level_word(sheet: &[u8], base: usize, n: usize, i: usize) -> bool
     requires readable { Readable sheet.now base n }
     requires i_lt_n { i < n }
     ensures { result ≡ holds (kind_is ReservedTopLevel) (previous_non_whitespace_token (here_at sheet.now base n i)) }
 {
     let seen = previous_non_whitespace_token(sheet, base, n, i);
-    seen_no(seen) == 4
+    matches!(seen, Some(TokenKind::ReservedTopLevel))
 }
 
 // A type specifier has a blank after it before such a word.
+#[tactic(auto, using(crate::proofs::Asked::seen_in))]
 pub fn before_reserved_word(sheet: &[u8], base: usize, n: usize, i: usize) -> bool
     requires readable { Readable sheet.now base n }
     requires i_lt_n { i < n }
     ensures { result ≡ holds (kind_in (Reserved ∷ ReservedNewline ∷ ReservedNewlineAfter ∷ [])) (next_non_whitespace_token (here_at sheet.now base n i)) }
 {
     let seen = next_non_whitespace_token(sheet, base, n, i);
-    one_of(seen_no(seen), 3, 6, 7)
+    matches!(
+        seen,
+        Some(TokenKind::Reserved | TokenKind::ReservedNewline | TokenKind::ReservedNewlineAfter)
+    )
 }
 
+#[tactic(auto, using(crate::proofs::Asked::seen_in), unfolding(rules::specs::Formatter::cuts_before))]
 pub fn cuts_before(sheet: &[u8], base: usize, n: usize, i: usize) -> bool
     requires readable { Readable sheet.now base n }
     requires i_lt_n { i < n }
     ensures { result ≡ cuts_before (here_at sheet.now base n i) }
 {
     let seen = previous_token(sheet, base, n, i);
-    if !one_of(seen_no(seen), 1, 9, 11) {
+    if !matches!(
+        seen,
+        Some(TokenKind::Whitespace | TokenKind::OpenParen | TokenKind::LineComment)
+    ) {
         return true;
     }
     if !is_byte(sheet, base, i, b'[') {
         return false;
     }
     let last = previous_non_whitespace_token(sheet, base, n, i);
-    one_of(seen_no(last), 10, 15, 3)
+    matches!(
+        last,
+        Some(TokenKind::CloseParen | TokenKind::Word | TokenKind::Reserved)
+    )
 }
 
+#[tactic(auto, using(crate::proofs::Asked::seen_in), unfolding(rules::specs::Formatter::blank_between))]
 pub fn blank_between(sheet: &[u8], base: usize, n: usize, i: usize) -> bool
     requires readable { Readable sheet.now base n }
     requires i_lt_n { i < n }
@@ -203,13 +168,10 @@ pub fn blank_between(sheet: &[u8], base: usize, n: usize, i: usize) -> bool
         return false;
     }
     let seen = previous_non_whitespace_token(sheet, base, n, i);
-    let k = seen_no(seen);
-    if k == 10 {
-        return true;
-    }
-    k == 3
+    matches!(seen, Some(TokenKind::CloseParen | TokenKind::Reserved))
 }
 
+#[tactic(auto, using(crate::proofs::Neighbours::no_feed_before, crate::proofs::Neighbours::feed_before))]
 pub fn after_line_feed(sheet: &[u8], base: usize, n: usize, i: usize) -> bool
     requires readable { Readable sheet.now base n }
     requires i_lt_n { i < n }
@@ -221,6 +183,7 @@ pub fn after_line_feed(sheet: &[u8], base: usize, n: usize, i: usize) -> bool
     has_line_feed(sheet, base, i - 1)
 }
 
+#[tactic(auto, using(crate::proofs::Neighbours::few_after, crate::proofs::Neighbours::white_after))]
 pub fn white_then_no_operator(sheet: &[u8], base: usize, n: usize, i: usize) -> bool
     requires readable { Readable sheet.now base n }
     requires i_lt_n { i < n }
@@ -229,14 +192,10 @@ pub fn white_then_no_operator(sheet: &[u8], base: usize, n: usize, i: usize) -> 
     if n - i <= 2 {
         return false;
     }
-    let next = kind_at(sheet, i + 1);
-    if kind_no(next) != 1 {
-        return false;
-    }
-    let second = kind_at(sheet, i + 2);
-    kind_no(second) != 8
+    kind_at(sheet, i + 1) == TokenKind::Whitespace && kind_at(sheet, i + 2) != TokenKind::Operator
 }
 
+#[tactic(auto, using(crate::proofs::Neighbours::no_two, crate::proofs::Neighbours::comma_before))]
 pub fn two_after_comma(sheet: &[u8], base: usize, n: usize, i: usize) -> bool
     requires readable { Readable sheet.now base n }
     requires i_lt_n { i < n }

@@ -2,31 +2,16 @@
 use mathlib.Core.Path.{◌≡◌, refl, sym, ap, ◌∙◌}
 use mathlib.Core.Bool.{Bool, true, false, ◌||◌, not}
 use mathlib.Core.List.{List, [], ◌∷◌, ◌++◌}
-use Prim.Native.Nat.{ℕ, suc, ◌+◌, ◌-◌, ◌≤◌, ◌<◌}
+use Prim.Native.Nat.{ℕ, suc, ◌+◌, ◌≤◌, ◌<◌}
 use native.Mathlib.Omega.{arith}
-use lib.Bits.{bit_or, or_add_and, and_le_l, or_zero_r}
-use lib.Dec.{eqb}
-use lib.ListN.{length, drop, get_or}
-use borrow.Author.Tests.{eq-eqb, ne_eqb, eqb-true}
-use Rattle.std.specs.Prelude.{if◌then◌else◌}
-use Rattle.ascii.specs.Part.{part, has, before}
-use Rattle.ascii.proofs.PartLaws.{length_part, part-suc, part-next, part_end, part-drop, part-more}
-
-or-false : (p : Bool) → p || false ≡ p
-or-false true = refl
-or-false false = refl
-
-or_true : (p : Bool) → p || true ≡ true
-or_true true = refl
-or_true false = refl
-
--- ---- bytes taken together: `|` is 0 exactly where none is equal
-
-told-by : (all : ℕ) (p e : Bool) → eqb all 0 ≡ not p → eqb (bit_or all (if e then 1 else 0)) 0 ≡ not (p || e)
-told-by all p false h = rw (or_zero_r all, or-false p) h
-told-by all p true h =
-    let o = or_add_and all 1 in
-    rw (or_true p) (ne_eqb (bit_or all 1) 0 (λ z. let k = and_le_l all 1 in absurd (omega arith)))
+use lib.Dec.{eqb, ltb}
+use lib.ListN.{length, take, drop, take-append-drop, length-append}
+use borrow.Author.Tests.{eqb-true, ltb-false}
+use Rattle.std.specs.Prelude.{Option, Some, None, cond, fold, unwrap_or}
+use Rattle.std.specs.List.{position, position_or_len}
+use Rattle.std.proofs.lemmas.List.Recursion.{is_position_or_len}
+use Rattle.std.proofs.lemmas.List.Sums.{prefix_len-le-length}
+use Rattle.ascii.specs.Part.{has, before}
 
 pub has_both : (a b : ℕ) (v w : List ℕ) → has a b (v ++ w) ≡ (has a b v || has a b w)
 has_both a b [] w = refl
@@ -36,16 +21,24 @@ has_both a b (y ∷ ys) w = go (eqb y a || eqb y b) (has_both a b ys w)
     go true f = refl
     go false f = f
 
-pub found-more : (s : List ℕ) (start a b i all m : ℕ) → start + i < length s → eqb all 0 ≡ not (has a b (part s start i))
-    → m ≡ (if eqb (get_or s (start + i) 0) a || eqb (get_or s (start + i) 0) b then 1 else 0) → eqb (bit_or all m) 0 ≡ not (has a b (part s start (i + 1)))
-found-more s start a b i all m h e f =
-    let x = get_or s (start + i) 0 in
-    let k : has a b (part s start i ++ (x ∷ [])) ≡ (has a b (part s start i) || (eqb x a || eqb x b)) = has_both a b (part s start i) (x ∷ []) ∙ rw (or-false (eqb x a || eqb x b)) in
-    rw (part-suc s start i h, k, f) (told-by all (has a b (part s start i)) (eqb x a || eqb x b) e)
+abbrev taken : ℕ → ℕ → Bool → ℕ → Bool
+taken a b all x = all || eqb x a || eqb x b
 
-pub found_all : (all : ℕ) (p : Bool) → eqb all 0 ≡ not p → not (eqb all 0) ≡ p
-found_all all true e = rw e
-found_all all false e = rw e
+taken-true : (a b : ℕ) (v : List ℕ) → fold (taken a b) true v ≡ true
+taken-true a b [] = refl
+taken-true a b (x ∷ xs) = taken-true a b xs
+
+-- the bytes taken together, by `|`
+fold_has : (a b : ℕ) (v : List ℕ) → fold (λ all x. all || eqb x a || eqb x b) false v ≡ has a b v
+fold_has a b [] = refl
+fold_has a b (x ∷ xs) = go (eqb x a || eqb x b) (fold_has a b xs)
+  where
+    go : (c : Bool) → fold (taken a b) false xs ≡ has a b xs → fold (taken a b) c xs ≡ (c || has a b xs)
+    go true f = taken-true a b xs
+    go false f = f
+
+pub by_fold : (a b : ℕ) (v : List ℕ) (r : Bool) → r ≡ fold (λ all x. all || eqb x a || eqb x b) false v → r ≡ has a b v
+by_fold a b v r e = e ∙ fold_has a b v
 
 -- ---- the bytes before it
 
@@ -72,29 +65,33 @@ before-next b (x ∷ xs) h = go (eqb x b) refl (before-next b xs)
         let m : suc (before b xs) + 1 ≡ suc (before b xs + 1) = omega arith in
         rw (k, m) (f (omega arith))
 
-module _ (s : List ℕ) (start n b i : ℕ) (h : start + n ≤ length s) (e : i + before b (drop i (part s start n)) ≡ before b (part s start n)) where
-  pub by-run-none : (k : ℕ) → i + k ≤ n → has b b (part s (start + i) k) ≡ false → i + k + before b (drop (i + k) (part s start n)) ≡ before b (part s start n)
-  by-run-none k c f =
-      let m : ℕ = n - (i + k) in
-      let a : n - i ≡ k + m = omega arith in
-      let u : start + i + k ≡ start + (i + k) = omega arith in
-      let l = length_part s (start + i) k (omega arith) in
-      let p : drop i (part s start n) ≡ part s (start + i) k ++ drop (i + k) (part s start n) =
-      part-drop s start n i ∙ ap (part s (start + i)) a ∙ part-more s (start + i) k m ∙ ap (λ (j : ℕ). part s (start + i) k ++ part s j m) u ∙ ap (λ (v : List ℕ). part s (start + i) k ++ v) (sym (part-drop s start n (i + k))) in
-      let q = ap (before b) p ∙ before-none b (part s (start + i) k) (drop (i + k) (part s start n)) f in
+one_more : (n : ℕ) → suc n ≡ 1 + n
+one_more n = omega arith
+
+first_place : (b : ℕ) (v : List ℕ) → before b v ≡ position_or_len (λ x. eqb x b) v
+first_place b v = is_position_or_len (before b) (λ x. eqb x b) refl (λ x xs. rw one_more) v
+
+-- the first b, or the length where there is none
+pub first_or : (b : ℕ) (v : List ℕ) (o : Option ℕ) → o ≡ position (λ x. eqb x b) v → (r : ℕ) → r ≡ unwrap_or o (length v) → r ≡ before b v
+first_or b v o e r f =
+    let p = position_or_len (λ x. eqb x b) v in
+    let q : p ≤ length v = prefix_len-le-length (λ x. not (eqb x b)) v in
+    f ∙ rw (e, first_place b v) (go (ltb p (length v)) refl q)
+  where
+    go : (c : Bool) → ltb (position_or_len (λ x. eqb x b) v) (length v) ≡ c → position_or_len (λ x. eqb x b) v ≤ length v
+        → unwrap_or (cond c (Some (position_or_len (λ x. eqb x b) v)) None) (length v) ≡ position_or_len (λ x. eqb x b) v
+    go true k q = refl
+    go false k q = let m = ltb-false (position_or_len (λ x. eqb x b) v) (length v) k in omega arith
+
+-- whole is the part, left what is left of it after blocks without b
+module _ (b n : ℕ) (whole left : List ℕ) (e : before b left + n ≡ before b whole + length left) where
+  pub no_block : (k : ℕ) (block after : List ℕ) → block ≡ take k left → after ≡ drop k left → length after + k ≡ length left → (r : Bool) → r ≡ fold (λ all x. all || eqb x b || eqb x b) false block → r ≡ false
+      → before b after + n ≡ before b whole + length after
+  no_block k block after f g l r t z =
+      let h : has b b block ≡ false = sym (by_fold b b block r t) ∙ z in
+      let p : left ≡ block ++ after = rw (f, g) (sym (take-append-drop k left)) in
+      let q = ap (before b) p ∙ before-none b block after h in
+      let m : length block ≡ k = let u = ap length p ∙ length-append block after in omega arith in
       omega arith
 
-  pub by-other-byte : i < n → (get_or s (start + i) 0 ≡ b → ⊥) → i + 1 + before b (drop (i + 1) (part s start n)) ≡ before b (part s start n)
-  by-other-byte c z =
-      let k : before b (drop i (part s start n)) ≡ suc (before b (drop (i + 1) (part s start n))) = rw (part-next s start n i h c, ne_eqb _ _ z) in
-      omega arith
-
-  pub by_byte : i < n → get_or s (start + i) 0 ≡ b → i ≡ before b (part s start n)
-  by_byte c z =
-      let k : before b (drop i (part s start n)) ≡ 0 = rw (part-next s start n i h c, eq-eqb _ _ z) in
-      omega arith
-
-  pub by-no-byte : n ≤ i → i ≡ before b (part s start n)
-  by-no-byte c =
-      let k : before b (drop i (part s start n)) ≡ 0 = rw (part_end s start n i h c) in
-      omega arith
+pub ruleset finds = (first_or, no_block)

@@ -2,11 +2,11 @@
 use mathlib.Core.Path.{◌≡◌, refl, sym, ap, ◌∙◌}
 use mathlib.Core.Bool.{Bool, true, false, ◌&&◌, false≢true}
 use mathlib.Core.List.{List, [], ◌∷◌, ◌++◌}
-use Prim.Native.Nat.{ℕ, zero, suc, ◌+◌, ◌-◌, ◌*◌, ◌≤◌, ◌<◌}
+use Prim.Native.Nat.{ℕ, suc, ◌+◌, ◌-◌, ◌*◌, ◌≤◌, ◌<◌}
 use native.Mathlib.Omega.{arith}
 use lib.Bits.{bit_or, bit_xor, or_add_and, xor_add_and, and_le_l, and_le_r, xor_self}
 use lib.Dec.{eqb}
-use lib.ListN.{length, get_or, replicate}
+use lib.ListN.{length, get_or}
 use borrow.Author.Tests.{eq-eqb, ne_eqb, eqb-true, eqb-false}
 use Rattle.rules.specs.Base.{same}
 use Rattle.ascii.specs.Part.{part, number, Bytes}
@@ -60,22 +60,12 @@ by_number [] (y ∷ ys) l h k = absurd (let z : 0 ≡ suc (length ys) = l in ome
 by_number (x ∷ xs) [] l h k = absurd (let z : suc (length xs) ≡ 0 = l in omega arith)
 by_number (x ∷ xs) (y ∷ ys) l h k = digit_by x y (number xs) (number ys) h.0 k.0 (eqb x y) (same xs ys) refl (by_number xs ys (omega arith) h.1 k.1)
 
-pub by-eight : (s o : List ℕ) (a b x y : ℕ) → a + 8 ≤ length s → b + 8 ≤ length o → (x ≡ number (part s a 8)) × Bytes (part s a 8)
+pub by_eight : (s o : List ℕ) (a b x y : ℕ) → a + 8 ≤ length s → b + 8 ≤ length o → (x ≡ number (part s a 8)) × Bytes (part s a 8)
     → (y ≡ number (part o b 8)) × Bytes (part o b 8) → eqb x y ≡ same (part s a 8) (part o b 8)
-by-eight s o a b x y h g u v =
+by_eight s o a b x y h g u v =
     let l = length_part s a 8 h in
     let r = length_part o b 8 g in
     rw (u.0, v.0) (by_number (part s a 8) (part o b 8) (omega arith) u.1 v.1)
-
-bytes-replicate : (n b : ℕ) → b < 256 → Bytes (replicate n b)
-bytes-replicate zero b h = tt
-bytes-replicate (suc n) b h = (h, bytes-replicate n b h)
-
-pub by-eight-blanks : (s : List ℕ) (a x : ℕ) → a + 8 ≤ length s → (x ≡ number (part s a 8)) × Bytes (part s a 8)
-    → eqb x 2314885530818453536 ≡ same (part s a 8) (replicate 8 32)
-by-eight-blanks s a x h u =
-    let l = length_part s a 8 h in
-    rw u.0 (by_number (part s a 8) (replicate 8 32) l u.1 (bytes-replicate 8 32 (omega arith)))
 
 -- two lists that are the same are one
 pub same_true : (v w : List ℕ) → same v w ≡ true → v ≡ w
@@ -101,9 +91,6 @@ module _ (s o : List ℕ) (start from : ℕ) where
   -- the first n bytes are the same
   abbrev Same : ℕ → Bool
   Same n = same (part s start n) (part o from n)
-
-  pub told_none : eqb 0 0 ≡ same (part s start 0) (part o from 0)
-  told_none = refl
 
   pub told_more : (i all : ℕ) → start + i < length s → from + i < length o → eqb all 0 ≡ same (part s start i) (part o from i)
       → eqb (bit_or all (bit_xor (get_or s (start + i) 0) (get_or o (from + i) 0))) 0 ≡ same (part s start (i + 1)) (part o from (i + 1))
@@ -142,3 +129,31 @@ module _ (s o : List ℕ) (start from : ℕ) where
         let m : true ≡ same (part s (start + (n - k)) j) (part o (from + (n - k)) j) && same (part s (start + i) (n - i)) (part o (from + i) (n - i)) = sym f ∙ ap (λ (z : ℕ). same (part s (start + (n - k)) z) (part o (from + (n - k)) z)) u ∙ rw (v, w) at l in
         let x = and_right (same (part s (start + (n - k)) j) (part o (from + (n - k)) j)) (same (part s (start + i) (n - i)) (part o (from + i) (n - i))) m in
         sym (ap Same t ∙ grown s o start from i (n - i) (omega arith) (omega arith) ∙ rw (e, x))
+
+-- ---- `same_bytes`: the first eight bytes and the last eight, and what stands between them
+
+module _ (s o : List ℕ) (start from n m : ℕ) (h : (start + n ≤ length s) × (from + m ≤ length o)) (u : n ≡ m) (a : 8 ≤ n) where
+  whole : (r : Bool) → r ≡ same (part s start n) (part o from n) → r ≡ same (part s start n) (part o from m)
+  whole r e = e ∙ ap (λ (k : ℕ). same (part s start n) (part o from k)) u
+
+  within : from + n ≤ length o
+  within = let k = h.1 in omega arith
+
+  pub by-last : same (part s (start + (n - 8)) 8) (part o (from + (n - 8)) 8) ≡ false → false ≡ same (part s start n) (part o from m)
+  by-last e = whole false (by-run-differ s o start from n h.0 within (n - 8) 8 (omega arith) e)
+
+  pub by-first : same (part s start 8) (part o from 8) ≡ false → false ≡ same (part s start n) (part o from m)
+  by-first e = whole false (by-start-differ s o start from n h.0 within 8 a e)
+
+  module _ (e : same (part s start 8) (part o from 8) ≡ true) (f : same (part s (start + (n - 8)) 8) (part o (from + (n - 8)) 8) ≡ true) where
+    pub by-ends : n ≤ 16 → true ≡ same (part s start n) (part o from m)
+    by-ends b = whole true (by-ends-agree s o start from n h.0 within 8 8 a a (omega arith) e f)
+
+    pub by-middle : (r : Bool) → r ≡ same (part s (start + 8) (n - 16)) (part o (from + 8) (n - 16)) → 16 < n → r ≡ same (part s start n) (part o from m)
+    by-middle r g b = whole r (go r refl)
+      where
+        go : (c : Bool) → r ≡ c → c ≡ same (part s start n) (part o from n)
+        go true p = by-ends-agree s o start from n h.0 within (8 + (n - 16)) 8 (omega arith) (omega arith) (omega arith) (by-run-agree s o start from n h.0 within 8 (n - 16) (omega arith) e (sym g ∙ p)) f
+        go false p = by-run-differ s o start from n h.0 within 8 (n - 16) (omega arith) (sym g ∙ p)
+
+pub ruleset compares = (by-last, by-first, by-ends, by-middle)

@@ -1,19 +1,16 @@
 -- Laws of the comparison of two parts. Assumes nothing.
 use mathlib.Core.Path.{◌≡◌, refl, sym, ap, ◌∙◌}
 use mathlib.Core.Bool.{Bool, true, false, ◌&&◌}
-use mathlib.Core.List.{List, [], ◌∷◌}
-use Prim.Native.Nat.{ℕ, ◌+◌, ◌≤◌, ◌<◌}
+use mathlib.Core.List.{List, [], ◌∷◌, map}
+use Prim.Native.Nat.{ℕ, ◌+◌, ◌≤◌}
 use native.Mathlib.Omega.{arith}
 use lib.Dec.{eqb}
-use lib.ListN.{length, drop, get_or, length-map}
-use lib.Seq.{take-length}
-use borrow.Author.Tests.{eq-eqb, ne_eqb}
-use Rattle.rules.specs.declared.Case.{Case}
-use Rattle.rules.specs.declared.Case.TheVariants as case
+use lib.ListN.{length, length-map}
+use Rattle.std.specs.List.{list_all, zip}
 use Rattle.rules.specs.Base.{same}
-use Rattle.rules.specs.Text.{byte_in_case, in_case}
+use Rattle.rules.specs.Text.{to_lower, is_lower}
 use Rattle.ascii.specs.Part.{part}
-use Rattle.ascii.proofs.PartLaws.{length_part, part-next, part_end}
+use Rattle.ascii.proofs.PartLaws.{length_part}
 
 and-false : (b : Bool) → b && false ≡ false
 and-false true = refl
@@ -25,47 +22,32 @@ unlike [] (y ∷ ys) h = refl
 unlike (x ∷ xs) [] h = refl
 unlike (x ∷ xs) (y ∷ ys) h = rw (unlike xs ys (λ e. h (omega arith))) (and-false (eqb x y))
 
-pub as_is : (v : List ℕ) → in_case case.AsIs v ≡ v
-as_is [] = refl
-as_is (x ∷ xs) = ap (λ (l : List ℕ). x ∷ l) (as_is xs)
-
-module _ (s o : List ℕ) (start n from m : ℕ) (k : Case) (h : (start + n ≤ length s) × (from + m ≤ length o)) where
-  abbrev left : List ℕ
-  left = part s start n
-
-  abbrev right : List ℕ
-  right = part o from m
-
-  pub by-unlike : (n ≡ m → ⊥) → false ≡ same (in_case k (part s start n)) (part o from m)
-  by-unlike z =
+module _ (s o : List ℕ) (start n from m : ℕ) (h : (start + n ≤ length s) × (from + m ≤ length o)) where
+  pub by_lengths : (n ≡ m → ⊥) → false ≡ same (part s start n) (part o from m)
+  by_lengths z =
       let l = length_part s start n h.0 in
       let r = length_part o from m h.1 in
-      let q = length-map left (byte_in_case k) in
-      sym (unlike (in_case k left) right (λ e. z (omega arith)))
+      sym (unlike (part s start n) (part o from m) (λ e. z (omega arith)))
 
-  module _ (i b : ℕ) (e : same (in_case k (drop i (part s start n))) (drop i (part o from m)) ≡ same (in_case k (part s start n)) (part o from m))
-      (c : i < n) (u : n ≡ m) (f : b ≡ byte_in_case k (get_or s (start + i) 0)) where
-    here : same (in_case k (drop i left)) (drop i right) ≡ eqb b (get_or o (from + i) 0) && same (in_case k (drop (i + 1) left)) (drop (i + 1) right)
-    here = let d : i < m = omega arith in rw (part-next s start n i h.0 c, part-next o from m i h.1 d, f)
+-- ---- in small letters
 
-    pub by-differ : (b ≡ get_or o (from + i) 0 → ⊥) → false ≡ same (in_case k (part s start n)) (part o from m)
-    by-differ z = sym (sym e ∙ here ∙ rw (ne_eqb _ _ z))
+abbrev lower_at : ℕ × ℕ → Bool
+lower_at p = eqb (to_lower p.0) p.1
 
-    pub by-agree : b ≡ get_or o (from + i) 0 → same (in_case k (drop (i + 1) (part s start n))) (drop (i + 1) (part o from m)) ≡ same (in_case k (part s start n)) (part o from m)
-    by-agree z = sym (sym e ∙ here ∙ rw (eq-eqb _ _ z))
+lower-all : (v w : List ℕ) → length v ≡ length w → list_all lower_at (zip v w) ≡ is_lower v w
+lower-all [] [] h = refl
+lower-all [] (y ∷ ys) h = absurd (omega arith)
+lower-all (x ∷ xs) [] h = absurd (omega arith)
+lower-all (x ∷ xs) (y ∷ ys) h = ap (λ (b : Bool). lower_at (x, y) && b) (lower-all xs ys (omega arith))
 
-  pub by_all : (i : ℕ) → same (in_case k (drop i (part s start n))) (drop i (part o from m)) ≡ same (in_case k (part s start n)) (part o from m)
-      → n ≤ i → n ≡ m → true ≡ same (in_case k (part s start n)) (part o from m)
-  by_all i e c u = let d : m ≤ i = omega arith in sym (sym e ∙ rw (part_end s start n i h.0 c, part_end o from m i h.1 d))
+module _ (s w : List ℕ) (start n : ℕ) (h : start + n ≤ length s) where
+  pub by_lower : n ≡ length w → (r : Bool) → r ≡ list_all (λ (p : ℕ × ℕ). eqb (to_lower p.0) p.1) (zip (part s start n) w) → r ≡ is_lower (part s start n) w
+  by_lower e r f = let l = length_part s start n h in f ∙ lower-all (part s start n) w (omega arith)
 
-pub by_whole : (v w : List ℕ) (r : Bool) → r ≡ same v (part w 0 (length w)) → r ≡ same v w
-by_whole v w r e = e ∙ ap (same v) (take-length w)
+  pub by_no_lower : (n ≡ length w → ⊥) → false ≡ is_lower (part s start n) w
+  by_no_lower z =
+      let l = length_part s start n h in
+      let k = length-map (part s start n) to_lower in
+      sym (unlike (map to_lower (part s start n)) w (λ e. z (omega arith)))
 
-pub by-as-is : (v w : List ℕ) (r : Bool) → r ≡ same (in_case case.AsIs v) w → r ≡ same v w
-by-as-is v w r e = e ∙ ap (λ (l : List ℕ). same l w) (as_is v)
-
-pub by_lengths : (s o : List ℕ) (start n from m : ℕ) → (start + n ≤ length s) × (from + m ≤ length o) → (n ≡ m → ⊥) → false ≡ same (part s start n) (part o from m)
-by_lengths s o start n from m h z = by-as-is (part s start n) (part o from m) false (by-unlike s o start n from m case.AsIs h z)
-
-pub by_length : (s o : List ℕ) (start n from m : ℕ) (r : Bool) → n ≡ m → r ≡ same (part s start n) (part o from n) → r ≡ same (part s start n) (part o from m)
-by_length s o start n from m r e h = h ∙ ap (λ (k : ℕ). same (part s start n) (part o from k)) e
+pub ruleset lowers = (by_lower, by_no_lower)

@@ -1,19 +1,19 @@
 -- An opening bracket: its tests, and its rule from what its calls gave. Assumes nothing.
+use Rattle.std.specs.Prelude.{is_some}
+use Rattle.std.proofs.lemmas.Bool.{and_parts}
 use mathlib.Core.Path.{◌≡◌, refl, sym, ◌∙◌}
 use mathlib.Core.Bool.{Bool, true, false, not, ◌&&◌}
 use mathlib.Core.List.{List}
 use Prim.Native.Nat.{ℕ, ◌+◌, ◌≤◌, ◌<◌}
 use native.Mathlib.Numerals.{add-one}
 use native.Mathlib.Omega.{arith}
-use borrow.Author.Tests.{not-true, not-false, le-leb, lt-leb, leb-false}
-use lib.Dec.{eqb}
+use borrow.Author.Tests.{not-true, leb-false}
 use lib.ListN.{length}
 use Rattle.rules.specs.declared.BlockInfo.{BlockInfo}
 use Rattle.rules.specs.declared.Case.{Case}
 use Rattle.rules.specs.declared.FormatOptions.{FormatOptions}
-use Rattle.rules.specs.declared.SpanInfo.{SpanInfo}
 use Rattle.rules.specs.declared.TokenKind.TheVariants.{ReservedTopLevel}
-use Rattle.rules.specs.Base.{holds, is_some, full}
+use Rattle.rules.specs.Base.{holds, full}
 use Rattle.rules.specs.Bytes.{bytes as text}
 use Rattle.rules.specs.Sheet.{env_of}
 use Rattle.rules.specs.Text.{Text, in_case, is_lower}
@@ -21,14 +21,12 @@ use Rattle.rules.specs.State.{State}
 use Rattle.rules.specs.Indentation.{Indentation, indent_level, increase_block_level, previous_top_level_reserved}
 use Rattle.rules.specs.InlineBlock.{is_active, is_inline_block, begins_inline, begin_if_possible}
 use Rattle.rules.specs.Formatter.{kind_is, previous_non_whitespace_token, folds_in, cuts_before, blank_between, format_opening_parentheses}
-use Rattle.stacks.proofs.StackLaws.{length-stack, right_of}
+use Rattle.stacks.proofs.StackLaws.{length-stack}
 use Rattle.ascii.specs.Part.{part as bytes}
 use Rattle.text.specs.Held.{text_of, Laid}
 use Rattle.text.specs.declared.Text.{Text as CodeText}
-use Rattle.indentation.specs.Of.{indentation_of, span_in, Stands}
+use Rattle.indentation.specs.Of.{indentation_of, Stands}
 use Rattle.indentation.specs.declared.Indentation.{Indentation as Stacks}
-use Rattle.indentation.specs.declared.TopLevel.{TopLevel}
-use Rattle.indentation.specs.declared.TopLevel.TheVariants as top
 use Rattle.inline_block.specs.Of as block
 use Rattle.inline_block.specs.declared.InlineBlock.{InlineBlock}
 use Rattle.query.specs.declared.Value.{Value}
@@ -55,45 +53,6 @@ module _ (o : FormatOptions) (info : BlockInfo) (l : List ℕ) (a : Bool) (e : a
   pub by-fitting : (b : Bool) → a ≡ false → b ≡ is_inline_block o info → b ≡ begins_inline o info l
   unfolding begins_inline
   by-fitting b h g = rw (← e, h) g
-
--- ---- whether the block is folded
-
-module _ (last : TopLevel) where
-  pub by-no-span : last ≡ top.Nothing → false ≡ holds folds_in (span_in last)
-  unfolding span_in
-  by-no-span e = rw e
-
-  module _ (sp : SpanInfo) (e : last ≡ top.Span sp) where
-    pub by_blocks : 2 < sp.blocks → false ≡ holds folds_in (span_in last)
-    unfolding span_in folds_in
-    by_blocks h = rw (e, lt-leb _ _ h)
-
-    pub by-no-newline : sp.blocks ≤ 2 → not sp.newline_after ≡ true → false ≡ holds folds_in (span_in last)
-    unfolding span_in folds_in
-    by-no-newline h n = rw (e, le-leb _ _ h, not-true sp.newline_after n)
-
-    pub by-arguments : sp.blocks ≤ 2 → not sp.newline_after ≡ false → eqb sp.arguments 1 ≡ holds folds_in (span_in last)
-    unfolding span_in folds_in
-    by-arguments h n = rw (e, le-leb _ _ h, not-false sp.newline_after n)
-
-module _ (s : List ℕ) (x : Context) (i : ℕ) (inlined : Bool) (n : Indentation ℕ) where
-  pub by-inlined : inlined ≡ true → false ≡ folded_in s x i inlined n
-  unfolding folded_in
-  by-inlined h = rw h
-
-  module _ (limited : Bool) (h : inlined ≡ false) (e : limited ≡ is_some x.options.max_inline_top_level) where
-    pub by-no-limit : not limited ≡ true → false ≡ folded_in s x i inlined n
-    unfolding folded_in
-    by-no-limit l = rw (h, ← e, not-true limited l)
-
-    module _ (after : Bool) (l : not limited ≡ false) (f : after ≡ holds (kind_is ReservedTopLevel) (previous_non_whitespace_token (here_in s x i))) where
-      pub by-no-top : not after ≡ true → false ≡ folded_in s x i inlined n
-      unfolding folded_in
-      by-no-top t = rw (h, ← e, not-false limited l, ← f, not-true after t)
-
-      pub by_last : (last : TopLevel) (b : Bool) → not after ≡ false → span_in last ≡ previous_top_level_reserved n → b ≡ holds folds_in (span_in last) → b ≡ folded_in s x i inlined n
-      unfolding folded_in
-      by_last last b t g k = rw (h, ← e, not-false limited l, ← f, not-false after t, ← g) k
 
 -- ---- the text
 
@@ -156,7 +115,7 @@ module _ (s : List ℕ) (x : Context) (i : ℕ) (st : Code) (d : List ℕ) (read
   unfolding block.inline_block_of full
   by-room inlined folded level how begins under eh eb more =
       let n = length-stack 0 st.inline_block.level st.inline_block.lengths in
-      let six : how.six ≡ false = not-true how.six (right_of inlined (not how.six) (sym eb ∙ more)) in
+      let six : how.six ≡ false = not-true how.six (and_parts inlined (not how.six) (sym eb ∙ more)).1 in
       let h = leb-false 128 (length stacks.indent_types) (rw eh at six) in
       omega arith
 

@@ -1,9 +1,9 @@
 -- The tests of a bracket, read from the sheet and from the code's stacks.
-use Rattle.std.specs.Prelude.{Bool, not, ◌&&◌, List, ℕ, eqb}
+use Rattle.std.specs.Prelude.{Bool, not, ◌&&◌, List, ℕ, eqb, is_some}
 use Rattle.rules.specs.declared.Case.{Case}
 use Rattle.rules.specs.declared.FormatOptions.{FormatOptions}
 use Rattle.rules.specs.declared.TokenKind.TheVariants.{ReservedTopLevel}
-use Rattle.rules.specs.Base.{choose, holds, is_some, full}
+use Rattle.rules.specs.Base.{choose, holds, full}
 use Rattle.rules.specs.Bytes.{bytes}
 use Rattle.rules.specs.Text.{Text, in_case, is_lower, is_on}
 use Rattle.rules.specs.Indentation.{Indentation, unfolded, previous_top_level_reserved}

@@ -2,22 +2,21 @@
 #![tactic(auto)]
 
 ghost use Rattle.std.specs.Prelude.{◌≡◌, ◌≤◌, ◌<◌, length};
-ghost use Rattle.rules.specs.Base.{holds, is_some};
+ghost use Rattle.rules.specs.Base.{holds};
 ghost use Rattle.rules.specs.InlineBlock.{begins_inline};
 ghost use Rattle.rules.specs.Formatter.{folds_in, format_opening_parentheses, format_closing_parentheses};
-ghost use Rattle.indentation.specs.Of.{span_in, indentation_of, Clean};
+ghost use Rattle.indentation.specs.Of.{indentation_of, Clean};
 ghost use Rattle.inline_block.specs.Of.{inline_block_of};
 ghost use Rattle.text.specs.Held.{text_of, Held, Laid};
 ghost use Rattle.query_brackets.specs.Opening.{opening};
 ghost use Rattle.state.specs.Of.{Known, Ready, Handled, given};
 ghost use Rattle.brackets.specs.Brackets.{bracket_in, folded_in, opening_in, ends_under, closing_of};
 
-use indentation::{Indentation, TopLevel};
+use indentation::Indentation;
 use inline_block::InlineBlock;
 use query_brackets::Opening;
 use reserved::case_of;
-use rules::{BlockInfo, FormatOptions, Limit};
-use stacks::both;
+use rules::{BlockInfo, FormatOptions, SpanInfo};
 use state::{Context, State, value_of};
 use text::{Text, is_on};
 
@@ -33,48 +32,28 @@ fn begins_inline(o: FormatOptions, info: BlockInfo, inline: InlineBlock) -> bool
     blocks::is_inline_block(o, info)
 }
 
-fn is_some(limit: Limit) -> bool
-    ensures { result ≡ is_some limit }
-{
-    match limit {
-        Limit::None => false,
-        Limit::Some(_) => true,
-    }
-}
-
 // top level ( block ), or top level ( block ) AS word (args, ...)
-fn folds_in(last: TopLevel) -> bool
-    ensures { result ≡ holds folds_in (span_in last) }
+#[tactic(auto, unfolding(rules::specs::Formatter::folds_in))]
+fn folds_in(last: Option<SpanInfo>) -> bool
+    ensures { result ≡ holds folds_in last }
 {
-    let TopLevel::Span(sp) = last else {
-        return false;
-    };
-    if 2 < sp.blocks {
-        return false;
+    match last {
+        None => false,
+        Some(sp) => sp.blocks <= 2 && sp.newline_after && sp.arguments == 1,
     }
-    if !sp.newline_after {
-        return false;
-    }
-    sp.arguments == 1
 }
 
+#[tactic(auto, unfolding(crate::specs::Brackets::folded_in))]
 fn is_folded(sheet: &[u8], x: Context, i: usize, inlined: bool, stacks: Indentation) -> bool
     requires { (Known sheet.now x) × (i < x.counts.tokens) × (Clean stacks) }
     ensures { result ≡ folded_in sheet.now x i inlined (indentation_of stacks) }
 {
-    if inlined {
-        return false;
-    }
-    let o = x.options;
-    let limit = o.max_inline_top_level;
-    if !is_some(limit) {
-        return false;
-    }
     let c = x.counts;
-    if !around::after_top_level_word(sheet, x.base, c.tokens, i) {
-        return false;
-    }
-    folds_in(stacks.previous_top_level_reserved())
+    let o = x.options;
+    !inlined
+        && o.max_inline_top_level.is_some()
+        && around::after_top_level_word(sheet, x.base, c.tokens, i)
+        && folds_in(stacks.previous_top_level_reserved())
 }
 
 fn opening_at(
@@ -135,7 +114,7 @@ pub fn format_opening_parentheses(
     let level = stacks.level_into(folded);
     let how = opening_at(sheet, x, i, stacks, inlined, folded, level);
     // Where refusal 6 is given no block begins.
-    let begins = both(inlined, !how.six);
+    let begins = inlined && !how.six;
     let t = s.text;
     // The stacks change last: with the text's work between, the compiler copies arrays that stay as they are.
     State {
@@ -212,7 +191,7 @@ pub fn format_closing_parentheses(
         indentation: left,
         // Where none is open it stays as it is.
         inline_block: inline.end(),
-        block_level: ahead::less(s.block_level),
+        block_level: s.block_level.saturating_sub(1),
         index: s.index,
     }
 }

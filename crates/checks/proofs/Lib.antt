@@ -1,5 +1,3 @@
 pub mod Sound
 pub mod Passes
 pub mod FirstLaws
-pub mod HighLaws
-pub mod CheckLaws

@@ -1,6 +1,8 @@
 -- A sheet that is sound can be read.
-use mathlib.Core.Bool.{Bool, true, false}
-use mathlib.Core.Path.{◌≡◌, refl, ap, sym, ◌∙◌}
+use Rattle.rules.specs.declared.Offence.{Offence}
+use Rattle.rules.specs.declared.Offence.TheVariants as offence
+use Rattle.std.specs.Prelude.{None, Option, Some, ℕ, Result, Ok}
+use mathlib.Core.Path.{◌≡◌, refl, sym, ◌∙◌}
 use mathlib.Core.List.{List}
 use Prim.Native.Nat.{ℕ, ◌+◌, ◌*◌}
 use native.Mathlib.Omega.{arith}
@@ -8,60 +10,48 @@ use lib.Dec.{eqb, leb}
 use lib.ListN.{length}
 use borrow.Author.Tests.{leb-true, eqb-true}
 use Rattle.rules.specs.declared.Counts.{Counts}
-use Rattle.rules.specs.declared.Offence.{Offence}
-use Rattle.rules.specs.declared.Offence.TheVariants.{At, Nowhere}
-use Rattle.rules.specs.declared.Checked.{Checked}
-use Rattle.rules.specs.declared.Checked.TheVariants.{Sound, Size, Word, Place, Byte}
 use Rattle.rules.specs.Words.{counts_of, tokens_at, params_at, keeps_at, body_at}
 use Rattle.rules.specs.Checks.{demanded, or_later, first_of, counts_fit, sizes, head_words, token_words, param_words, words, token_places, param_places, keep_places, places, body_bytes, refused_as, checked_as, checked}
 use Rattle.records.specs.Sheeted.{Sheeted}
 use Rattle.checks.proofs.Passes.{demanded-holds, or_neither, none_of, fit-few, head-options, head-mode, token-words, nameless, token-within, keep-inside, param-inside, none-ascii}
 use Rattle.checks.specs.Sound.{Sized}
 
-is_sound : Checked → Bool
-is_sound (Sound c) = true
-is_sound Size = false
-is_sound (Word p) = false
-is_sound (Place p) = false
-is_sound (Byte p) = false
-
 -- a sheet that is sound was not refused
-past : (refusal : ℕ → Checked) (o : Offence) (later : Checked) (c : Counts) → ((p : ℕ) → is_sound (refusal p) ≡ false) → refused_as refusal o later ≡ Sound c → (o ≡ Nowhere) × (later ≡ Sound c)
-unfolding is_sound
-past refusal (At p) later c never h = absurd (let z : false ≡ true = sym (never p) ∙ ap is_sound h in let y : ◌≡◌ {A = ℕ} 0 1 = cc in omega arith)
-past refusal Nowhere later c never h = (refl, h)
+past : (refusal : ℕ → Offence) (o : Option ℕ) (later : Result Counts Offence) (c : Counts) → refused_as refusal o later ≡ Ok c → (o ≡ None) × (later ≡ Ok c)
+past refusal (Some p) later c h = cc
+past refusal None later c h = (refl, h)
 
 -- the four checks find nothing
 record Passed (s : List ℕ) (c : Counts) : Type 0 where
-  pub sizes_found : sizes s ≡ Nowhere
-  pub words_pass : words s c ≡ Nowhere
-  pub places_pass : places s c ≡ Nowhere
-  pub bytes_pass : body_bytes s c ≡ Nowhere
+  pub sizes_found : sizes s ≡ None
+  pub words_pass : words s c ≡ None
+  pub places_pass : places s c ≡ None
+  pub bytes_pass : body_bytes s c ≡ None
 
-passed : (s : List ℕ) (c : Counts) → checked s ≡ Sound c → Passed s (counts_of s) × (counts_of s ≡ c)
-unfolding checked checked_as is_sound
+passed : (s : List ℕ) (c : Counts) → checked s ≡ Ok c → Passed s (counts_of s) × (counts_of s ≡ c)
+unfolding checked checked_as
 passed s c h =
     let k = counts_of s in
-    let t3 = refused_as Byte (body_bytes s k) (Sound k) in
-    let t2 = refused_as Place (places s k) t3 in
-    let h1 = past (λ p. Size) (sizes s) (refused_as Word (words s k) t2) c (λ p. refl) h in
-    let h2 = past Word (words s k) t2 c (λ p. refl) h1.1 in
-    let h3 = past Place (places s k) t3 c (λ p. refl) h2.1 in
-    let h4 = past Byte (body_bytes s k) (Sound k) c (λ p. refl) h3.1 in
+    let t3 = refused_as offence.Byte (body_bytes s k) (Ok k) in
+    let t2 = refused_as offence.Place (places s k) t3 in
+    let h1 = past (λ p. offence.Size) (sizes s) (refused_as offence.Word (words s k) t2) c h in
+    let h2 = past offence.Word (words s k) t2 c h1.1 in
+    let h3 = past offence.Place (places s k) t3 c h2.1 in
+    let h4 = past offence.Byte (body_bytes s k) (Ok k) c h3.1 in
     (record { sizes_found = h1.0; words_pass = h2.0; places_pass = h3.0; bytes_pass = h4.0 }, cc)
 
 -- check 1 finds nothing
-pub sizes-pass : (s : List ℕ) → sizes s ≡ Nowhere → Sized s (counts_of s)
+pub sizes-pass : (s : List ℕ) → sizes s ≡ None → Sized s (counts_of s)
 sizes-pass s h =
     let k = counts_of s in
-    let l3 = demanded (eqb (length s) (body_at k + k.bytes)) 0 Nowhere in
+    let l3 = demanded (eqb (length s) (body_at k + k.bytes)) 0 None in
     let one = demanded-holds (leb 48 (length s)) 0 (demanded (counts_fit k) 0 l3) h in
     let two = demanded-holds (counts_fit k) 0 l3 one.1 in
-    let three = demanded-holds (eqb (length s) (body_at k + k.bytes)) 0 Nowhere two.1 in
+    let three = demanded-holds (eqb (length s) (body_at k + k.bytes)) 0 None two.1 in
     record { head_in = leb-true _ _ one.0; counted = refl; few = fit-few k two.0; long = eqb-true _ _ three.0 }
 
 -- as a match on the answer of `check_size` has it
-pub answer-sized : (s : List ℕ) (o : Offence) (c : Counts) → o ≡ sizes s → o ≡ Nowhere → c ≡ counts_of s → Sized s c
+pub answer-sized : (s : List ℕ) (o : Option ℕ) (c : Counts) → o ≡ sizes s → o ≡ None → c ≡ counts_of s → Sized s c
 answer-sized s o c e n k = rw k (sizes-pass s (sym e ∙ n))
 
 module _ (s : List ℕ) (h : Passed s (counts_of s)) where
@@ -115,9 +105,9 @@ module _ (s : List ℕ) (h : Passed s (counts_of s)) where
       }
 
 -- what `check` calls sound meets what the readers ask
-pub sound-sheeted : (s : List ℕ) (c : Counts) → checked s ≡ Sound c → Sheeted s c
+pub sound-sheeted : (s : List ℕ) (c : Counts) → checked s ≡ Ok c → Sheeted s c
 sound-sheeted s c h = let p = passed s c h in rw p.1 at (sheeted s p.0)
 
 -- the same, as a match on the answer of `check` has it
-pub answer-sheeted : (s : List ℕ) (k : Checked) (c : Counts) → k ≡ checked s → k ≡ Sound c → Sheeted s c
+pub answer-sheeted : (s : List ℕ) (k : Result Counts Offence) (c : Counts) → k ≡ checked s → k ≡ Ok c → Sheeted s c
 answer-sheeted s k c e h = sound-sheeted s c (sym e ∙ h)

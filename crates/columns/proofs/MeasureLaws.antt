@@ -12,7 +12,7 @@ use lib.ListN.{length, drop, get_or}
 use Rattle.std.specs.Prelude.{if◌then◌else◌}
 use Rattle.rules.specs.Text.{column_after}
 use Rattle.ascii.specs.Part.{part, has}
-use Rattle.ascii.proofs.PartLaws.{length_part, part-more, part-next, part_end, part-drop}
+use Rattle.ascii.proofs.PartLaws.{length_part, part-more, part-next, part-drop}
 use Rattle.ascii.proofs.FindLaws.{has_both}
 use Rattle.columns.specs.declared.Measure.{Measure}
 use Rattle.columns.specs.Measured.{one_on, measure, onward, tabs}
@@ -77,27 +77,22 @@ measure-both m (x ∷ xs) w = measure-both (one_on m x) xs w
 
 module _ (d : List ℕ) (start n i : ℕ) (h : start + n ≤ length d) (c : i < n) (a : ℕ) where
   -- a turn of the loop
-  pub by_byte : (b k m : ℕ) (r : Measure) → k ≡ column_after a (get_or d (start + i) 0) → m ≡ max k b → measure (record { at = a; best = b }) (drop i (part d start n)) ≡ r
+  pub by_byte : (b k m : ℕ) (r : Measure) → k ≡ column_after a (get_or d (start + i) 0) → m ≡ max b k → measure (record { at = a; best = b }) (drop i (part d start n)) ≡ r
       → measure (record { at = k; best = m }) (drop (i + 1) (part d start n)) ≡ r
   by_byte b k m r ek em e =
       let o : measure (record { at = a; best = b }) (drop i (part d start n)) ≡ measure (one_on (record { at = a; best = b }) (get_or d (start + i) 0)) (drop (i + 1) (part d start n)) =
       ap (measure (record { at = a; best = b })) (part-next d start n i h c) in
-      rw (em, ek) (sym o ∙ e)
-
-  pub by-byte-column : (j k : ℕ) → k ≡ column_after a (get_or d (start + i) 0) → a ≤ j + 8 * i → k ≤ j + 8 * (i + 1)
-  by-byte-column j k ek g = let o = column-most a (get_or d (start + i) 0) in rw ek (omega arith)
-
-pub by_bytes : (d : List ℕ) (start n i : ℕ) (m r : Measure) → start + n ≤ length d → n ≤ i → measure m (drop i (part d start n)) ≡ r → m ≡ r
-by_bytes d start n i m r h c e = rw (part_end d start n i h c) at e
+      let f : m ≡ max k b = omega (arith, em) in
+      rw (f, ek) (sym o ∙ e)
 
 -- ---- bytes without a tab or a line feed
 
 or_neither : (p q : Bool) → p ≡ false → q ≡ false → (p || q) ≡ false
 or_neither p q e f = rw e f
 
-pub by-more-plain : (d : List ℕ) (start i k : ℕ) (b : Bool) → b ≡ has 9 10 (part d (start + i) k) → b ≡ false → has 9 10 (part d start i) ≡ false → has 9 10 (part d start (i + k)) ≡ false
-by-more-plain d start i k b e f g =
-    ap (has 9 10) (part-more d start i k) ∙ has_both 9 10 (part d start i) (part d (start + i) k) ∙ or_neither (has 9 10 (part d start i)) (has 9 10 (part d (start + i) k)) g (sym e ∙ f)
+pub by_more_plain : (d : List ℕ) (start i j k : ℕ) (b : Bool) → j ≡ i + k → b ≡ has 9 10 (part d (start + i) k) → b ≡ false → has 9 10 (part d start i) ≡ false → has 9 10 (part d start j) ≡ false
+by_more_plain d start i j k b z e f g =
+    rw z (ap (has 9 10) (part-more d start i k) ∙ has_both 9 10 (part d start i) (part d (start + i) k) ∙ or_neither (has 9 10 (part d start i)) (has 9 10 (part d (start + i) k)) g (sym e ∙ f))
 
 -- a byte of the run is neither
 plain_byte : (x : ℕ) (v : List ℕ) → has 9 10 (x ∷ v) ≡ false → (eqb x 9 ≡ false) × ((eqb x 10 ≡ false) × (has 9 10 v ≡ false))
@@ -125,8 +120,8 @@ measure-plain m (x ∷ xs) u h =
     let b : max (suc m.at + length xs) (max (suc m.at) m.best) ≡ max (m.at + suc (length xs)) m.best = omega arith in
     ap (λ (k : Measure). measure k xs) o ∙ w ∙ ap (λ (k : ℕ). count k (max (suc m.at + length xs) (max (suc m.at) m.best))) a ∙ ap (count (m.at + suc (length xs))) b
 
-pub by-plain : (d : List ℕ) (start n : ℕ) (m : Measure) → start + n ≤ length d → m.at ≤ m.best → has 9 10 (part d start n) ≡ false → onward m n ≡ measure m (part d start n)
-by-plain d start n m h u p = ap (onward m) (sym (length_part d start n h)) ∙ sym (measure-plain m (part d start n) u p)
+pub by_plain : (d : List ℕ) (start n : ℕ) (m : Measure) → start + n ≤ length d → m.at ≤ m.best → has 9 10 (part d start n) ≡ false → onward m n ≡ measure m (part d start n)
+by_plain d start n m h u p = ap (onward m) (sym (length_part d start n h)) ∙ sym (measure-plain m (part d start n) u p)
 
 -- ---- tabs in a row
 
@@ -138,12 +133,9 @@ measure-tabs m (suc n) =
     let b : max ((m.at / 8 + suc (suc n)) * 8) (max ((m.at / 8 + 1) * 8) m.best) ≡ max ((m.at / 8 + suc (suc n)) * 8) m.best = omega arith in
     measure-tabs (one_on m 9) n ∙ rw (a, b)
 
-pub by-tabbed : (m : Measure) (n b : ℕ) → (n ≡ 0 → ⊥) → b ≡ max ((m.at / 8 + n) * 8) m.best → record { at = (m.at / 8 + n) * 8; best = b } ≡ measure m (tabs n)
-by-tabbed m zero b z e = absurd (z refl)
-by-tabbed m (suc n) b z e = rw e (sym (measure-tabs m n))
-
-pub by-no-tabs : (m : Measure) (n : ℕ) → n ≡ 0 → m ≡ measure m (tabs n)
-by-no-tabs m n z = rw z
+pub by_tabbed : (m : Measure) (n b : ℕ) → (n ≡ 0 → ⊥) → b ≡ max ((m.at / 8 + n) * 8) m.best → record { at = (m.at / 8 + n) * 8; best = b } ≡ measure m (tabs n)
+by_tabbed m zero b z e = absurd (z refl)
+by_tabbed m (suc n) b z e = rw e (sym (measure-tabs m n))
 
 -- ---- the loop
 
@@ -183,11 +175,11 @@ module _ (d : List ℕ) (start n : ℕ) (from : Measure) (i : ℕ) (m : Measure)
 
   -- and a run without tabs and line feeds
   counted-past : (k : ℕ) → i + k ≤ n → has 9 10 (part d (start + i) k) ≡ false → (e : Measure) → e ≡ onward m k → Counted d start n from (i + k) e
-  counted-past k c p e f = counted-on k c e (f ∙ by-plain d (start + i) k m (omega arith) s.under p)
+  counted-past k c p e f = counted-on k c e (f ∙ by_plain d (start + i) k m (omega arith) s.under p)
 
   -- the bytes that are left
-  pub by-rest : (r : Measure) → r ≡ measure m (part d (start + i) (n - i)) → r ≡ measure from (part d start n)
-  by-rest r e = e ∙ ap (measure m) (sym (part-drop d start n i)) ∙ s.left
+  pub by_rest : (r : Measure) → r ≡ measure m (part d (start + i) (n - i)) → r ≡ measure from (part d start n)
+  by_rest r e = e ∙ ap (measure m) (sym (part-drop d start n i)) ∙ s.left
 
 -- a turn: eight bytes, a run, and tabs
 module _ (d : List ℕ) (start n : ℕ) (from : Measure) (i : ℕ) (m e : Measure) (h : start + n ≤ length d) (s : Counted d start n from i m) (c : 8 ≤ n - i) (f : e ≡ measure m (part d (start + i) 8)) where
@@ -195,8 +187,8 @@ module _ (d : List ℕ) (start n : ℕ) (from : Measure) (i : ℕ) (m e : Measur
   by-eight = counted-on d start n from i m h s 8 (omega arith) e f
 
   module _ (r : ℕ) (p : Measure) (b : r ≤ n - (i + 8)) (q : has 9 10 (part d (start + (i + 8)) r) ≡ false) (g : p ≡ onward e r) where
-    pub by-run : Counted d start n from (i + 8 + r) p
-    by-run = counted-past d start n from (i + 8) e h by-eight r (omega arith) q p g
+    pub by_run : Counted d start n from (i + 8 + r) p
+    by_run = counted-past d start n from (i + 8) e h by-eight r (omega arith) q p g
 
     pub by_turn : (t : ℕ) (a : Measure) → t ≤ n - (i + 8 + r) → part d (start + (i + 8 + r)) t ≡ tabs t → a ≡ measure p (tabs t) → Counted d start n from (i + 8 + r + t) a
-    by_turn t a l k o = counted-on d start n from (i + 8 + r) p h by-run t (omega arith) a (o ∙ ap (measure p) (sym k))
+    by_turn t a l k o = counted-on d start n from (i + 8 + r) p h by_run t (omega arith) a (o ∙ ap (measure p) (sym k))

@@ -7,7 +7,7 @@ ghost use Rattle.ascii.specs.Part.{part, has};
 ghost use Rattle.columns.specs.Measured.{measure, onward, tabs};
 
 use ascii::in_run;
-use longest::{all_are, larger};
+use longest::all_are;
 
 // The column, and the largest column so far.
 #[derive(Clone, Copy)]
@@ -27,7 +27,7 @@ fn stop(b: u8) -> usize
 fn kept(b: u8) -> usize
     ensures { result ≡ (if eqb b 10 then 0 else 2 ^ 64 - 1) }
 {
-    if b == 10 { 0 } else { 18446744073709551615 }
+    if b == 10 { 0 } else { usize::MAX }
 }
 
 // No branch, for bytes in no order.
@@ -39,17 +39,16 @@ fn column_after(at: usize, b: u8) -> usize
 }
 
 // A byte at a time: each column hangs on the one before it.
+#[tactic(auto, using(crate::proofs::MeasureLaws::by_byte))]
 fn measured(text: &[u8], start: usize, n: usize, m: Measure) -> Measure
     requires { (start + n ≤ length text.now) × (m.at + 8 * n < 2 ^ 63) }
     ensures { result ≡ measure m (part text.now start n) }
 {
     let mut at = m.at;
     let mut best = m.best;
-    let mut i = 0;
-    while i < n {
+    for i in 0..n {
         at = column_after(at, text[start + i]);
-        best = larger(at, best);
-        i += 1;
+        best = best.max(at);
     }
     Measure { at, best }
 }
@@ -59,17 +58,15 @@ fn plain_run(text: &[u8], start: usize, n: usize, goes_on: bool) -> usize
     requires { start + n ≤ length text.now }
     ensures { (result ≤ n) × (has 9 10 (part text.now start result) ≡ false) }
 {
-    let mut i = 0;
     if !goes_on {
-        return i;
+        return 0;
     }
-    while 16 <= n - i {
-        if in_run(text, start + i, 16, 9, 10) {
-            return i;
+    for k in 0..n / 16 {
+        if in_run(text, start + 16 * k, 16, 9, 10) {
+            return 16 * k;
         }
-        i += 16;
     }
-    i
+    16 * (n / 16)
 }
 
 pub fn passed(m: Measure, run: usize) -> Measure
@@ -79,28 +76,28 @@ pub fn passed(m: Measure, run: usize) -> Measure
     let at = m.at + run;
     Measure {
         at,
-        best: larger(at, m.best),
+        best: at.max(m.best),
     }
 }
 
 // A number of tabs; none are looked for unless the line `goes on` in tabs.
+// Not one function with `plain_run`: with a closure for the test both laws stay, and a contract for the closure comes to them.
 fn tab_run(text: &[u8], start: usize, n: usize, goes_on: bool) -> usize
     requires { start + n ≤ length text.now }
     ensures { (result ≤ n) × (part text.now start result ≡ tabs result) }
 {
-    let mut i = 0;
     if !goes_on {
-        return i;
+        return 0;
     }
-    while 16 <= n - i {
-        if !all_are(text, start + i, 16, 9) {
-            return i;
+    for k in 0..n / 16 {
+        if !all_are(text, start + 16 * k, 16, 9) {
+            return 16 * k;
         }
-        i += 16;
     }
-    i
+    16 * (n / 16)
 }
 
+#[tactic(auto, using(crate::proofs::MeasureLaws::by_tabbed))]
 fn tabbed(m: Measure, run: usize) -> Measure
     requires { m.at + 8 * run < 2 ^ 63 }
     ensures { result ≡ measure m (tabs run) }
@@ -111,7 +108,7 @@ fn tabbed(m: Measure, run: usize) -> Measure
     let at = (m.at / 8 + run) * 8;
     Measure {
         at,
-        best: larger(at, m.best),
+        best: at.max(m.best),
     }
 }
 
@@ -123,6 +120,7 @@ pub fn by_columns(text: &[u8], start: usize, n: usize, from: Measure) -> Measure
 {
     let mut m = from;
     let mut i = 0;
+    // Steps of no fixed length: a `while`.
     while 8 <= n - i {
         let eight = measured(text, start + i, 8, m);
         i += 8;

@@ -1,15 +1,14 @@
 -- The bytes that are covered: from the marks of the places to the bits, and their number. Assumes nothing.
 use mathlib.Core.Path.{◌≡◌, refl, sym, ap, ◌∙◌}
-use mathlib.Core.Bool.{Bool, true, false, ◌&&◌, ◌||◌, and-false, or-false}
+use mathlib.Core.Bool.{Bool, true, false, ◌&&◌, ◌||◌, and-false}
 use mathlib.Core.List.{List, [], ◌∷◌}
 use Prim.Native.Nat.{ℕ, zero, suc, ◌+◌, ◌-◌, ◌*◌, ◌/◌, ◌%◌, ◌^◌, ◌≤◌, ◌<◌}
 use native.Mathlib.Nat.{zero-div, add-suc, add-zero}
 use native.Mathlib.Numerals.{add-one}
 use native.Mathlib.Omega.{arith}
-use lib.Dec.{leb, ltb}
+use lib.Dec.{leb}
 use lib.ListN.{length, get_or, replicate, length-append, length-replicate}
 use borrow.Author.Tests.{le-ltb}
-use Rattle.rules.specs.declared.Place.{Place}
 use Rattle.rules.specs.declared.Counts.{Counts}
 use Rattle.std.specs.Prelude.{if◌then◌else◌}
 use Rattle.rules.specs.Words.{place_at, body_at}
@@ -63,18 +62,6 @@ module _ (s : List ℕ) (c : Counts) (bits far : List ℕ) where
         → ((j : ℕ) → j < 32768 → marked bits' far' j ≡ (marked bits far j || (starts_place s c (4 * k) && covers (place_at s (4 * k)) j))) → Covers s c bits' far' (k + 1)
     unfolding covered_by
     cover_on bits' far' l n e = rw (add-one k) (record { in_words = omega arith; long = n; marks = λ j m. e j m ∙ rw (h.marks j m) })
-
-    pub cover_ends : word_count c ≤ k → (j : ℕ) → j < 32768 → marked bits far j ≡ is_covered s c j
-    cover_ends l j m = let i = h.in_words in let e : k ≡ word_count c = omega arith in h.marks j m ∙ ap (λ (n : ℕ). covered_by s c n j) e
-
--- one word: it starts a place, or none
-module _ (s : List ℕ) (c : Counts) (at j : ℕ) (t : Bool) (e : t ≡ starts_place s c at) where
-  pub place_covers : (p : Place) (start len : ℕ) → t ≡ true → p ≡ place_at s at → start ≡ p.start → len ≡ p.len
-      → (leb start j && ltb j (start + len)) ≡ (starts_place s c at && covers (place_at s at) j)
-  place_covers p start len i f g h = rw (← e, i, g, h, f)
-
-  pub none-covers : (b : Bool) → t ≡ false → b ≡ (b || (starts_place s c at && covers (place_at s at) j))
-  none-covers b i = rw (← e, i) (sym (or-false b))
 
 -- all of them, settled
 pub marks-of : (s : List ℕ) (c : Counts) (bits before : List ℕ) → Counted bits before → ((j : ℕ) → j < 32768 → bit_of bits j ≡ is_covered s c j) → Marked s c bits

@@ -5,39 +5,14 @@ use mathlib.Core.List.{List}
 use Prim.Native.Nat.{ℕ, ◌+◌, ◌-◌, ◌*◌, ◌/◌, ◌%◌, ◌≤◌, ◌<◌}
 use native.Mathlib.Omega.{arith}
 use lib.Dec.{eqb, ltb}
-use borrow.Author.Tests.{lt-ltb, le-ltb, ltb-true, ltb-false, eqb-true, eqb-false, ne_eqb}
+use borrow.Author.Tests.{ltb-true, ltb-false, eqb-true, eqb-false}
 use Rattle.rules.specs.declared.Counts.{Counts}
 use Rattle.rules.specs.declared.PlaceholderKind.TheVariants as key
-use Rattle.std.specs.Prelude.{if◌then◌else◌}
+use Rattle.std.specs.Prelude.{if◌then◌else◌, Some}
 use Rattle.rules.specs.Words.{word_at, place_at, class_bits, key_of, tokens_at, token_from, token_at, params_at, keeps_at, body_at}
 use Rattle.rules.specs.Compacted.{word_count, starts_in_token, starts_place}
 use Rattle.tokens.specs.Placed.{Inside}
 use Rattle.records.specs.Sheeted.{Sheeted}
-
--- ---- the tests
-
-module _ (s : List ℕ) (at k : ℕ) where
-  pub value-starts : k ≡ 4 → true ≡ starts_in_token s at k
-  value-starts e = rw e
-
-  pub key-starts : (w b : ℕ) → k ≡ 12 → w ≡ word_at s (at - 12) → b ≡ class_bits w → eqb b 1 ≡ starts_in_token s at k
-  key-starts w b e f g = rw (e, g, f)
-
-  pub none-starts : (k ≡ 4 → ⊥) → (k ≡ 12 → ⊥) → false ≡ starts_in_token s at k
-  none-starts n m = rw (ne_eqb k 4 n, ne_eqb k 12 m)
-
-module _ (s : List ℕ) (c : Counts) (at : ℕ) where
-  pub before-all : at < 48 → false ≡ starts_place s c at
-  unfolding starts_place
-  before-all h = rw (lt-ltb at 48 h)
-
-  pub in-tokens : (r : Bool) → 48 ≤ at → at < params_at c → r ≡ starts_in_token s at ((at - 48) % 20) → r ≡ starts_place s c at
-  unfolding starts_place
-  in-tokens r h l e = e ∙ rw (le-ltb at 48 h, lt-ltb at (params_at c) l)
-
-  pub past-tokens : 48 ≤ at → params_at c ≤ at → eqb ((at - params_at c) % 8) 0 ≡ starts_place s c at
-  unfolding starts_place
-  past-tokens h l = rw (le-ltb at 48 h, le-ltb at (params_at c) l)
 
 -- ---- each place
 
@@ -56,7 +31,7 @@ module _ (s : List ℕ) (c : Counts) (h : Sheeted s c) where
       unfolding token_from
       value_in e = in-bodies at (omega arith) (rw e (h.tokens.within i l).value_in)
 
-      named : class_bits (word_at s (tokens_at + 20 * i)) ≡ 1 → (token_at s i).key ≡ key.Named (place_at s (tokens_at + 20 * i + 12))
+      named : class_bits (word_at s (tokens_at + 20 * i)) ≡ 1 → (token_at s i).key ≡ Some (key.Named (place_at s (tokens_at + 20 * i + 12)))
       unfolding token_from key_of place_at
       named e = let f : tokens_at + 20 * i + 12 + 4 ≡ tokens_at + 20 * i + 16 = omega arith in rw (e, f)
 
@@ -75,8 +50,8 @@ module _ (s : List ℕ) (c : Counts) (h : Sheeted s c) where
         by-test true p y q z r o = let e = eqb-true ((at - 48) % 20) 4 p in value_in i (omega arith) (omega arith)
         by-test false p true q true r o =
             let e = eqb-true ((at - 48) % 20) 12 q in key_in i (omega arith) (omega arith) (eqb-true (class_bits (word_at s (at - 12))) 1 r)
-        by-test false p true q false r o = let z : ◌≡◌ {A = ℕ} 0 1 = cc in absurd (omega arith)
-        by-test false p false q z r o = let z : ◌≡◌ {A = ℕ} 0 1 = cc in absurd (omega arith)
+        by-test false p true q false r o = cc
+        by-test false p false q z r o = cc
 
     -- parameters and keep words
     name_in : (i : ℕ) → i < c.params → at ≡ params_at c + 16 * i → PlaceIn s c at
@@ -107,7 +82,7 @@ module _ (s : List ℕ) (c : Counts) (h : Sheeted s c) where
       where
         by-test : (x : Bool) → ltb at 48 ≡ x → (y : Bool) → ltb at (params_at c) ≡ y
             → (if x then false else if y then starts_in_token s at ((at - 48) % 20) else eqb ((at - params_at c) % 8) 0) ≡ true → PlaceIn s c at
-        by-test true p y q o = let z : ◌≡◌ {A = ℕ} 0 1 = cc in absurd (omega arith)
+        by-test true p y q o = cc
         by-test false p true q o = token-in (ltb-false at 48 p) (ltb-true at (params_at c) q) o
         by-test false p false q o = record_in (ltb-false at (params_at c) q) l (eqb-true ((at - params_at c) % 8) 0 o)
 

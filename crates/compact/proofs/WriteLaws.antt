@@ -1,6 +1,6 @@
 -- The new sheet, word by word and byte by byte. Assumes nothing.
 use mathlib.Core.Logic.{◌⊎◌, ⊎_elim}
-use mathlib.Core.Path.{◌≡◌, refl, sym, ap, ◌∙◌}
+use mathlib.Core.Path.{◌≡◌, refl, sym, ◌∙◌}
 use mathlib.Core.Bool.{Bool, true, false}
 use mathlib.Core.List.{List, [], ◌∷◌, ◌++◌, append-nil}
 use Prim.Native.Nat.{ℕ, zero, suc, ◌+◌, ◌-◌, ◌*◌, ◌≤◌, ◌<◌}
@@ -8,47 +8,22 @@ use native.Mathlib.Nat.{zero-add, add-zero, add-suc}
 use native.Mathlib.Numerals.{add-one}
 use native.Mathlib.Omega.{arith}
 use lib.Dec.{eqb}
-use lib.ListN.{length, take, drop, set, get_or, replicate, length-append, length-replicate, length-set, drop_of_length-le}
-use borrow.Author.Tests.{lt-ltb, le-ltb, eq-eqb, ne_eqb}
+use lib.ListN.{length, take, drop, set, get_or, replicate, length-append, length-set}
+use borrow.Author.Tests.{lt-ltb, le-ltb, ne_eqb}
 use Rattle.rules.specs.declared.Place.{Place}
 use Rattle.rules.specs.declared.Counts.{Counts}
-use Rattle.rules.specs.declared.Checked.TheVariants as found
 use Rattle.rules.specs.declared.Outcome.{Outcome}
-use Rattle.std.specs.Prelude.{if◌then◌else◌}
+use Rattle.std.specs.Prelude.{if◌then◌else◌, Ok}
 use Rattle.rules.specs.Words.{word_bytes, place_at, body_at}
 use Rattle.rules.specs.Compacted.{word_count, starts_place, is_covered, kept_bytes, kept_before, new_start, new_bytes, moved_words, compacted, compact_as, outcome_of, buffer_with}
 use Rattle.records.specs.Sheeted.{Sheeted}
 use Rattle.marks.specs.Marks.{bit_of, count_of}
-use Rattle.marks.proofs.CountLaws.{count-le}
-use Rattle.ascii.specs.Part.{part}
 use Rattle.ascii.proofs.PartLaws.{length_part}
 use Rattle.text.specs.Put.{put}
 use Rattle.text.proofs.PutLaws.{put-nil, put-snoc, drop-replicate}
-use Rattle.word_bytes.proofs.WordLaws.{part-four}
 use Rattle.word_bytes.proofs.PutLaws.{put-more}
 use Rattle.compact.specs.Marked.{Marked}
 use Rattle.compact.proofs.CoverLaws.{kept-bits}
-
--- ---- four bytes
-
-pub by-copied : (d d' s : List ℕ) (at : ℕ) → at + 4 ≤ length s → d' ≡ put d at (get_or s at 0 ∷ get_or s (at + 1) 0 ∷ get_or s (at + 2) 0 ∷ get_or s (at + 3) 0 ∷ []) → d' ≡ put d at (part s at 4)
-by-copied d d' s at h e = e ∙ ap (put d at) (part-four s at h)
-
--- ---- where a place starts
-
-module _ (bits : List ℕ) (p : Place) where
-  abbrev started : ℕ
-  started = if eqb p.len 0 then 0 else count_of (bit_of bits) p.start
-
-  pub start_none : p.len ≡ 0 → 0 ≡ started
-  start_none e = rw (eq-eqb p.len 0 e)
-
-  module _ (w x : ℕ) (e : x ≡ p.start) (f : w ≡ count_of (bit_of bits) x) where
-    pub start-some : (p.len ≡ 0 → ⊥) → w ≡ started
-    start-some n = f ∙ rw (ne_eqb p.len 0 n, e)
-
-    pub start_fits : x < 4294967296 → w < 4294967296
-    start_fits l = let m = count-le (bit_of bits) x in omega arith
 
 -- ---- one word
 
@@ -97,9 +72,6 @@ module _ (s : List ℕ) (c : Counts) (h : Sheeted s c) where
         let n = length-words k (omega arith) in
         g ∙ rw (e, add-one k) (put-more d 0 (moved_words s c k) (new_bytes s c (4 * k)) (4 * k) (omega arith) (omega arith))
 
-    pub words-end : k ≤ word_count c → word_count c ≤ k → t ≡ put d 0 (moved_words s c (word_count c))
-    words-end l m = let i : k ≡ word_count c = omega arith in cc
-
 pub words-begin : (s : List ℕ) (c : Counts) (d : List ℕ) → d ≡ put d 0 (moved_words s c 0)
 unfolding moved_words
 words-begin s c d = sym (put-nil d 0)
@@ -136,9 +108,6 @@ module _ (s : List ℕ) (c : Counts) where
     copy_begins = record { in-bodies = omega arith; behind = omega arith; same-room = refl; bytes = sym (put-nil d base) }
 
     module _ (t : List ℕ) (at j : ℕ) (h : Copied d base t at j) where
-      pub copy_ends : c.bytes ≤ j → t ≡ put d base (kept_bytes s c c.bytes)
-      copy_ends l = let m = h.in-bodies in let e : j ≡ c.bytes = omega arith in h.bytes ∙ ap (λ (n : ℕ). put d base (kept_bytes s c n)) e
-
       module _ (l : j < c.bytes) where
         copy_left : is_covered s c j ≡ false → Copied d base t at (j + 1)
         copy_left e = record { in-bodies = omega arith; behind = rw (kept-left j e) h.behind; same-room = h.same-room; bytes = rw (kept-left j e) h.bytes }
@@ -184,29 +153,21 @@ module _ (s : List ℕ) (c : Counts) (h : Sheeted s c) where
   unfolding compacted
   length-compacted = rw (length-append, length-words s c h (word_count c) (omega arith)) (omega arith)
 
-  module _ (d d₁ : List ℕ) (base kept : ℕ) (eb : base ≡ body_at c) (ek : kept ≡ kept_before s c c.bytes) (cleared : d₁ ≡ put d 0 (replicate (length d) 0)) where
+  module _ (d d₁ : List ℕ) (base kept : ℕ) (eb : base ≡ body_at c) (ek : kept ≡ kept_before s c c.bytes) (cleared : d₁ ≡ replicate (length d) 0) where
     abbrev Told : Outcome → List ℕ → Type 0
-    Told r q = (r ≡ outcome_of (compact_as s (length d) (found.Sound c))) × (q ≡ buffer_with (length d) (compact_as s (length d) (found.Sound c)))
-
-    all-zero : d₁ ≡ replicate (length d) 0
-    unfolding put
-    all-zero =
-        let zeros : List ℕ = replicate (length d) 0 in
-        let l : length zeros ≡ length d = length-replicate (length d) 0 in
-        let g : length d ≤ 0 + length zeros = omega arith in
-        cleared ∙ rw (drop_of_length-le d g) (append-nil _)
+    Told r q = (r ≡ outcome_of (compact_as s (length d) (Ok c))) × (q ≡ buffer_with (length d) (compact_as s (length d) (Ok c)))
 
     pub by-eleven : length d < base + kept → Told (record { refusal = 11; place = 0; length = 0 }) d₁
     unfolding compact_as outcome_of buffer_with
     by-eleven l =
-        let n = length-compacted in rw (lt-ltb (length d) (length (compacted s c)) (omega arith)) (refl, all-zero)
+        let n = length-compacted in rw (lt-ltb (length d) (length (compacted s c)) (omega arith)) (refl, cleared)
 
     module _ (d₂ d₃ : List ℕ) (e₂ : d₂ ≡ put d₁ 0 (moved_words s c (word_count c))) (e₃ : d₃ ≡ put d₂ base (kept_bytes s c c.bytes)) where
       one-put : d₃ ≡ put (replicate (length d) 0) 0 (compacted s c)
       unfolding compacted
       one-put =
           let n = length-words s c h (word_count c) (omega arith) in
-          e₃ ∙ rw (e₂, all-zero) (put-more (replicate (length d) 0) 0 (moved_words s c (word_count c)) (kept_bytes s c c.bytes) base (omega arith) (omega arith))
+          e₃ ∙ rw (e₂, cleared) (put-more (replicate (length d) 0) 0 (moved_words s c (word_count c)) (kept_bytes s c c.bytes) base (omega arith) (omega arith))
 
       zeros-after : d₃ ≡ compacted s c ++ replicate (length d - length (compacted s c)) 0
       unfolding put

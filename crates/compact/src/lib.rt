@@ -1,8 +1,7 @@
 // Wish 6: the sheet written anew, with only those body bytes that some place covers.
 #![tactic(auto)]
 
-ghost use Rattle.std.specs.Prelude.{if◌then◌else◌, ◌≡◌, ◌&&◌, ◌||◌, ℕ, ◌+◌, ◌*◌, ◌≤◌, ◌<◌, eqb, length, take, drop, replicate};
-ghost use Rattle.rules.specs.declared.Checked.TheVariants as found;
+ghost use Rattle.std.specs.Prelude.{if◌then◌else◌, ◌≡◌, ◌&&◌, ◌||◌, ℕ, ◌+◌, ◌*◌, ◌≤◌, ◌<◌, eqb, length, take, drop, replicate, Ok};
 ghost use Rattle.rules.specs.Words.{place_at, body_at};
 ghost use Rattle.rules.specs.Compacted.{word_count, starts_in_token, starts_place, covers, is_covered, kept_bytes, kept_before, new_bytes, moved_words, compact_as, outcome_of, buffer_with};
 ghost use Rattle.records.specs.Sheeted.{Sheeted, Few};
@@ -12,7 +11,7 @@ ghost use Rattle.compact.specs.Marked.{Marked};
 
 use rules::{Counts, Outcome, Place};
 use tokens::{place_at, to_usize, word_at};
-use word_bytes::{put_bytes, put_word};
+use word_bytes::put_word;
 
 // ---- the places of a sheet
 
@@ -21,10 +20,7 @@ fn word_count(c: Counts) -> usize
     requires { Few c }
     ensures { result ≡ word_count c }
 {
-    let n = c.tokens;
-    let p = c.params;
-    let k = c.keeps;
-    12 + 5 * n + 4 * p + 2 * k
+    12 + 5 * c.tokens + 4 * c.params + 2 * c.keeps
 }
 
 // In a token record, k bytes from its start.
@@ -32,25 +28,19 @@ fn starts_in_token(sheet: &[u8], at: usize, k: usize) -> bool
     requires { (12 ≤ at) × (at ≤ length sheet.now) }
     ensures { result ≡ starts_in_token sheet.now at k }
 {
-    if k == 4 {
-        return true;
-    }
-    if k == 12 {
-        return tokens::class_bits(word_at(sheet, at - 12)) == 1;
-    }
-    false
+    k == 4 || (k == 12 && tokens::class_bits(word_at(sheet, at - 12)) == 1)
 }
 
 // The word at a byte offset starts a place.
+#[tactic(auto, unfolding(rules::specs::Compacted::starts_place))]
 fn starts_place(sheet: &[u8], c: Counts, at: usize) -> bool
     requires { (Few c) × (at ≤ length sheet.now) }
     ensures { result ≡ starts_place sheet.now c at }
 {
-    let n = c.tokens;
     if at < 48 {
         return false;
     }
-    let params = 48 + 20 * n;
+    let params = 48 + 20 * c.tokens;
     if at < params {
         return starts_in_token(sheet, at, (at - 48) % 20);
     }
@@ -80,28 +70,19 @@ fn mark_places(bits: &mut [u32], far: &mut [u32], sheet: &[u8], c: Counts)
     ensures long { Long bits.new far.new }
     ensures by_index { (j : ℕ) → j < 32768 → marked bits.new far.new j ≡ is_covered sheet.now c j }
 {
-    let words = word_count(c);
-    let mut k = 0;
-    while k < words {
+    for k in 0..word_count(c) {
         mark_place(bits, far, sheet, c, k);
-        k += 1;
     }
 }
 
 // ---- one word of the new sheet
 
+#[tactic(auto, unfolding(text::specs::Put::put))]
 fn copy_word(out: &mut [u8], at: usize, sheet: &[u8])
     requires { (at + 4 ≤ length out.old) × (at + 4 ≤ length sheet.now) }
     ensures { out.new ≡ put out.old at (take 4 (drop at sheet.now)) }
 {
-    put_bytes(
-        out,
-        at,
-        sheet[at],
-        sheet[at + 1],
-        sheet[at + 2],
-        sheet[at + 3],
-    );
+    out[at..at + 4].copy_from_slice(&sheet[at..at + 4]);
 }
 
 // Where a place starts among the kept bytes.
@@ -109,12 +90,10 @@ fn new_start(bits: &[u32], before: &[u32], p: Place) -> u32
     requires { (Counted bits.now before.now) × (p.start + p.len ≤ 32768) }
     ensures { result ≡ (if eqb p.len 0 then 0 else count_of (bit_of bits.now) p.start) }
 {
-    let start = p.start;
-    let len = p.len;
-    if len == 0 {
+    if p.len == 0 {
         return 0;
     }
-    marks::marks_before(bits, before, to_usize(start)) as u32
+    marks::marks_before(bits, before, to_usize(p.start)) as u32
 }
 
 // Word 3 counts the body bytes, a start moves, all others stay.
@@ -153,11 +132,8 @@ fn move_words(out: &mut [u8], sheet: &[u8], c: Counts, bits: &[u32], before: &[u
     requires kept_value { (kept ≡ kept_before sheet.now c c.bytes) × (body_at c ≤ length out.old) }
     ensures { out.new ≡ put out.old 0 (moved_words sheet.now c (word_count c)) }
 {
-    let words = word_count(c);
-    let mut k = 0;
-    while k < words {
+    for k in 0..word_count(c) {
         move_word(out, sheet, c, bits, before, kept, k);
-        k += 1;
     }
 }
 
@@ -167,13 +143,11 @@ fn copy_kept(out: &mut [u8], base: usize, sheet: &[u8], c: Counts, bits: &[u32])
     ensures { out.new ≡ put out.old base (kept_bytes sheet.now c c.bytes) }
 {
     let mut at = base;
-    let mut j = 0;
-    while j < c.bytes {
+    for j in 0..c.bytes {
         if marks::is_marked(bits, j) {
             out[at] = sheet[base + j];
             at += 1;
         }
-        j += 1;
     }
 }
 
@@ -189,11 +163,11 @@ fn write(
     requires sheeted { (Sheeted sheet.now c) × (Marked sheet.now c bits.now) }
     requires counted { Counted bits.now before.now }
     requires kept_value { kept ≡ kept_before sheet.now c c.bytes }
-    ensures value { result ≡ outcome_of (compact_as sheet.now (length out.old) (found.Sound c)) }
-    ensures out_after { out.new ≡ buffer_with (length out.old) (compact_as sheet.now (length out.old) (found.Sound c)) }
+    ensures value { result ≡ outcome_of (compact_as sheet.now (length out.old) (Ok c)) }
+    ensures out_after { out.new ≡ buffer_with (length out.old) (compact_as sheet.now (length out.old) (Ok c)) }
 {
     let room = out.len();
-    text::fill(out, 0, 0, room);
+    out.fill(0);
     let base = records::body_at(c);
     if room < base + kept {
         return Outcome {
@@ -211,33 +185,16 @@ fn write(
     }
 }
 
-// The marks in three lists of words, all zero.
-fn compact_by(
-    sheet: &[u8],
-    out: &mut [u8],
-    c: Counts,
-    bits: &mut [u32],
-    far: &mut [u32],
-    before: &mut [u32],
-) -> Outcome
-    requires sheeted { Sheeted sheet.now c }
-    requires bits_value { (bits.old ≡ replicate 1024 0) × (far.old ≡ replicate 1024 0) × (length before.old ≡ 1024) }
-    ensures value { result ≡ outcome_of (compact_as sheet.now (length out.old) (found.Sound c)) }
-    ensures out_after { out.new ≡ buffer_with (length out.old) (compact_as sheet.now (length out.old) (found.Sound c)) }
-{
-    mark_places(bits, far, sheet, c);
-    let kept = marks::settle(bits, far, before);
-    write(sheet, out, c, bits, before, kept)
-}
-
 // Of a sheet that checks 1 to 4 found sound: the outcome in numbers, and the buffer to its last byte.
 pub fn compact(sheet: &[u8], out: &mut [u8], c: Counts) -> Outcome
     requires { Sheeted sheet.now c }
-    ensures value { result ≡ outcome_of (compact_as sheet.now (length out.old) (found.Sound c)) }
-    ensures out_after { out.new ≡ buffer_with (length out.old) (compact_as sheet.now (length out.old) (found.Sound c)) }
+    ensures value { result ≡ outcome_of (compact_as sheet.now (length out.old) (Ok c)) }
+    ensures out_after { out.new ≡ buffer_with (length out.old) (compact_as sheet.now (length out.old) (Ok c)) }
 {
-    let mut bits: [u32; 1024] = [0; 1024];
-    let mut far: [u32; 1024] = [0; 1024];
-    let mut before: [u32; 1024] = [0; 1024];
-    compact_by(sheet, out, c, &mut bits, &mut far, &mut before)
+    let mut bits = [0; 1024];
+    let mut far = [0; 1024];
+    let mut before = [0; 1024];
+    mark_places(&mut bits, &mut far, sheet, c);
+    let kept = marks::settle(&mut bits, &far, &mut before);
+    write(sheet, out, c, &bits, &before, kept)
 }

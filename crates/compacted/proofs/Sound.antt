@@ -2,22 +2,19 @@
 use mathlib.Core.Bool.{Bool, true, false, ◌&&◌}
 use mathlib.Core.Path.{◌≡◌, refl, ap, sym, ◌∙◌}
 use mathlib.Core.List.{List}
-use Prim.Native.Nat.{ℕ, zero, suc, ◌+◌, ◌*◌, ◌%◌, ◌≤◌, ◌<◌}
-use native.Mathlib.Nat.{mul-suc}
+use Prim.Native.Nat.{ℕ, ◌+◌, ◌*◌, ◌%◌, ◌≤◌, ◌<◌}
 use native.Mathlib.Omega.{arith}
 use lib.Dec.{eqb, leb}
 use lib.ListN.{get_or}
 use borrow.Author.Tests.{eqb-true, eqb-false, eq-eqb, le-leb, lt-ltb}
 use Rattle.rules.specs.declared.Counts.{Counts}
 use Rattle.rules.specs.declared.Place.{Place}
-use Rattle.rules.specs.declared.Offence.{Offence}
-use Rattle.rules.specs.declared.Offence.TheVariants.{Nowhere}
-use Rattle.rules.specs.declared.Checked.TheVariants as found
-use Rattle.std.specs.Prelude.{if◌then◌else◌}
+use Rattle.std.specs.Prelude.{if◌then◌else◌, None, ℕ, Ok}
 use Rattle.rules.specs.Words.{word_at, place_at, counts_of, class_bits, kind_bits, upper_bits, tokens_at, params_at, keeps_at, body_at}
-use Rattle.rules.specs.Checks.{first_of, sizes, head_words, token_words, param_words, words, in_body, token_places, param_places, keep_places, places, body_byte, body_bytes, checked_as, checked}
+use Rattle.rules.specs.Checks.{sizes, head_words, token_words, param_words, words, in_body, token_places, param_places, keep_places, places, body_byte, body_bytes, checked_as, checked}
 use Rattle.rules.specs.Compacted.{kept_bytes, kept_before, compacted}
 use Rattle.records.specs.Sheeted.{Sheeted}
+use Rattle.checks.proofs.Passes.{none_first}
 use Rattle.compacted.proofs.Bytes.{length-compacted, byte-new}
 use Rattle.compacted.proofs.Places.{Start, of-value, of-name, of-record}
 use Rattle.compacted.proofs.Kept.{kept-le, kept_byte, kept-each}
@@ -35,20 +32,10 @@ if-fits x k a b p q = go (eqb x k) refl
     go true e = p (eqb-true x k e)
     go false e = q (eqb-false x k e)
 
-none_first : (f : ℕ → Offence) (size at k : ℕ) → ((i : ℕ) → i < k → f (at + size * i) ≡ Nowhere) → first_of f size at k ≡ Nowhere
-unfolding first_of
-none_first f size at zero h = refl
-none_first f size at (suc k) h =
-    let e : at + size * 0 ≡ at = omega arith in
-    let here : f at ≡ Nowhere = rw e at (h 0 (omega arith)) in
-    rw here (none_first f size (at + size) k (λ i l.
-    let o : at + size * suc i ≡ at + size + size * i = omega (arith, mul-suc size i) in
-    rw o at (h (suc i) (omega arith))))
-
 module _ (s : List ℕ) (c : Counts) (h : Sheeted s c) where
   -- ---- check 1
 
-  sizes-pass : sizes (compacted s c) ≡ Nowhere
+  sizes-pass : sizes (compacted s c) ≡ None
   sizes-pass =
       let few = h.few in
       let b : kept_before s c c.bytes ≤ 32768 = omega (arith, kept-le s c c.bytes) in
@@ -65,7 +52,7 @@ module _ (s : List ℕ) (c : Counts) (h : Sheeted s c) where
 
   -- ---- check 2
 
-  head-pass : head_words (compacted s c) ≡ Nowhere
+  head-pass : head_words (compacted s c) ≡ None
   unfolding head_words counts_of
   head-pass =
       let o = h.options in
@@ -88,7 +75,7 @@ module _ (s : List ℕ) (c : Counts) (h : Sheeted s c) where
       )
 
   module _ (i : ℕ) (l : i < c.tokens) where
-    token-words-pass : token_words (compacted s c) (tokens_at + 20 * i) ≡ Nowhere
+    token-words-pass : token_words (compacted s c) (tokens_at + 20 * i) ≡ None
     unfolding token_words
     token-words-pass =
         let at = tokens_at + 20 * i in
@@ -107,7 +94,7 @@ module _ (s : List ℕ) (c : Counts) (h : Sheeted s c) where
   nameless-so : (i : ℕ) → i < c.params → (word_at s 16 ≡ 2 → ⊥) → place_at (compacted s c) (params_at c + 16 * i) ≡ record { start = 0; len = 0 }
   nameless-so i l n = place_moves s c h (params_at c + 16 * i) (of-record (2 * i) (omega arith) (omega arith)) ∙ rw ((h.params.within i l).nameless n)
 
-  param-words-pass : (i : ℕ) → i < c.params → param_words (compacted s c) (params_at c + 16 * i) ≡ Nowhere
+  param-words-pass : (i : ℕ) → i < c.params → param_words (compacted s c) (params_at c + 16 * i) ≡ None
   unfolding param_words place_at
   param-words-pass i l =
       let at = params_at c + 16 * i in
@@ -118,7 +105,7 @@ module _ (s : List ℕ) (c : Counts) (h : Sheeted s c) where
         if-fits (word_at s 16) 2 true (eqb (word_at t (at + 4)) 0) (λ z. refl) (λ z. eq-eqb (word_at t (at + 4)) 0 (ap (λ (p : Place). p.len) (nameless-so i l z))),
       )
 
-  words_pass : words (compacted s c) (new_counts s c) ≡ Nowhere
+  words_pass : words (compacted s c) (new_counts s c) ≡ None
   words_pass =
       rw (head-pass, none_first (token_words (compacted s c)) 20 tokens_at c.tokens token-words-pass)
       (none_first (param_words (compacted s c)) 16 (params_at c) c.params param-words-pass)
@@ -128,7 +115,7 @@ module _ (s : List ℕ) (c : Counts) (h : Sheeted s c) where
   place_pass : (at : ℕ) → Start s c at → in_body (place_at (compacted s c) at) (kept_before s c c.bytes) ≡ true
   place_pass at st = rw (place_moves s c h at st) (le-leb _ _ (moved_in s c h at st))
 
-  token-places-pass : (i : ℕ) → i < c.tokens → token_places (compacted s c) (kept_before s c c.bytes) (tokens_at + 20 * i) ≡ Nowhere
+  token-places-pass : (i : ℕ) → i < c.tokens → token_places (compacted s c) (kept_before s c c.bytes) (tokens_at + 20 * i) ≡ None
   unfolding token_places
   token-places-pass i l =
       let at = tokens_at + 20 * i in
@@ -138,17 +125,17 @@ module _ (s : List ℕ) (c : Counts) (h : Sheeted s c) where
   record-pass : (m at : ℕ) → m < 2 * c.params + c.keeps → at ≡ params_at c + 8 * m → in_body (place_at (compacted s c) at) (kept_before s c c.bytes) ≡ true
   record-pass m at l e = place_pass at (of-record m l e)
 
-  param-places-pass : (i : ℕ) → i < c.params → param_places (compacted s c) (kept_before s c c.bytes) (params_at c + 16 * i) ≡ Nowhere
+  param-places-pass : (i : ℕ) → i < c.params → param_places (compacted s c) (kept_before s c c.bytes) (params_at c + 16 * i) ≡ None
   unfolding param_places
   param-places-pass i l =
       let at = params_at c + 16 * i in
       rw (record-pass (2 * i) at (omega arith) (omega arith), record-pass (2 * i + 1) (at + 8) (omega arith) (omega arith))
 
-  keep-places-pass : (i : ℕ) → i < c.keeps → keep_places (compacted s c) (kept_before s c c.bytes) (keeps_at c + 8 * i) ≡ Nowhere
+  keep-places-pass : (i : ℕ) → i < c.keeps → keep_places (compacted s c) (kept_before s c c.bytes) (keeps_at c + 8 * i) ≡ None
   unfolding keep_places
   keep-places-pass i l = rw (record-pass (2 * c.params + i) (keeps_at c + 8 * i) (omega arith) (omega arith))
 
-  places_pass : places (compacted s c) (new_counts s c) ≡ Nowhere
+  places_pass : places (compacted s c) (new_counts s c) ≡ None
   places_pass =
       let t = compacted s c in
       let k = kept_before s c c.bytes in
@@ -160,21 +147,21 @@ module _ (s : List ℕ) (c : Counts) (h : Sheeted s c) where
   kept-ascii : (m : ℕ) → m < kept_before s c c.bytes → get_or (kept_bytes s c c.bytes) m 0 < 128
   kept-ascii = kept-each s c (λ m. get_or (kept_bytes s c c.bytes) m 0 < 128) c.bytes (λ j l e. rw (kept_byte s c j c.bytes l e) (h.ascii j l))
 
-  byte-pass : (j : ℕ) → j < kept_before s c c.bytes → body_byte (compacted s c) (body_at c + 1 * j) ≡ Nowhere
+  byte-pass : (j : ℕ) → j < kept_before s c c.bytes → body_byte (compacted s c) (body_at c + 1 * j) ≡ None
   unfolding body_byte
   byte-pass j l =
       let o : body_at c + 1 * j ≡ body_at c + j = omega arith in
       rw (o, byte-new s c (long s c h) j, lt-ltb (get_or (kept_bytes s c c.bytes) j 0) 128 (kept-ascii j l))
 
-  bytes_pass : body_bytes (compacted s c) (new_counts s c) ≡ Nowhere
+  bytes_pass : body_bytes (compacted s c) (new_counts s c) ≡ None
   bytes_pass = none_first (body_byte (compacted s c)) 1 (body_at c) (kept_before s c c.bytes) byte-pass
 
   -- ---- all
 
-  checked-so : checked_as (compacted s c) (new_counts s c) ≡ found.Sound (new_counts s c)
+  checked-so : checked_as (compacted s c) (new_counts s c) ≡ Ok (new_counts s c)
   unfolding checked_as
   checked-so = rw (words_pass, places_pass, bytes_pass)
 
-  pub new-sound : checked (compacted s c) ≡ found.Sound (new_counts s c)
+  pub new-sound : checked (compacted s c) ≡ Ok (new_counts s c)
   unfolding checked
   new-sound = rw (sizes-pass, counts-so s c h) checked-so

@@ -1,10 +1,10 @@
 -- Wish 6: what a compacted sheet is to the sheet that it was made of.
+use Rattle.std.specs.Prelude.{Ok}
 use mathlib.Core.Path.{◌≡◌}
 use mathlib.Core.List.{List}
 use Prim.Native.Nat.{ℕ}
 use native.Mathlib.Omega.{arith}
 use Rattle.rules.specs.declared.Counts.{Counts}
-use Rattle.rules.specs.declared.Checked.TheVariants as found
 use Rattle.rules.specs.Checks.{checked}
 use Rattle.rules.specs.Sheet.{env_of, tokens_of}
 use Rattle.rules.specs.Words.{word_at}
@@ -20,7 +20,7 @@ use Rattle.compacted.proofs.Sound.{new-sound}
 use Rattle.compacted.proofs.Again.{all-covered, compacted-again}
 
 -- two sound sheets that say the same
-module _ (s t : List ℕ) (c k : Counts) (hs : checked s ≡ found.Sound c) (ht : checked t ≡ found.Sound k) (ts : tokens_of t k ≡ tokens_of s c) (es : (room : ℕ) → env_of t k room ≡ env_of s c room) (ws : word_at t 28 ≡ word_at s 28) where
+module _ (s t : List ℕ) (c k : Counts) (hs : checked s ≡ Ok c) (ht : checked t ≡ Ok k) (ts : tokens_of t k ≡ tokens_of s c) (es : (room : ℕ) → env_of t k room ≡ env_of s c room) (ws : word_at t 28 ≡ word_at s 28) where
   same_answer : (room : ℕ) → answer t room ≡ answer s room
   unfolding answer answer_as is_withdrawn
   same_answer room = rw (hs, ht, ts, es room, ws)
@@ -33,7 +33,7 @@ module _ (s t : List ℕ) (c k : Counts) (hs : checked s ≡ found.Sound c) (ht 
   unfolding list_after list_as listed_as is_short to_lay_out answer_as is_withdrawn
   same-list room n = rw (hs, ht, ts, es room, ws)
 
-pub same-sheet : (s : List ℕ) (c : Counts) → checked s ≡ found.Sound c → SameSheet s (compacted s c)
+pub same-sheet : (s : List ℕ) (c : Counts) → checked s ≡ Ok c → SameSheet s (compacted s c)
 same-sheet s c e =
     let h = sound-sheeted s c e in
     let t = compacted s c in

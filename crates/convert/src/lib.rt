@@ -1,29 +1,19 @@
 // Wish 12: a sheet with word 7 at 1, which is withdrawn, converted where it lies.
 #![tactic(auto)]
 
-ghost use Rattle.std.specs.Prelude.{◌≡◌, ◌≤◌, length};
-ghost use Rattle.rules.specs.declared.Checked.TheVariants as found;
+ghost use Rattle.std.specs.Prelude.{◌≡◌, Ok};
 ghost use Rattle.records.specs.Sheeted.{Sheeted};
-ghost use Rattle.converted.specs.Converted.{refusal as unconverted, convert_as, convert as convert_of, convert_outcome, sheet_after};
+ghost use Rattle.converted.specs.Converted.{convert_as, convert as convert_of, convert_outcome, sheet_after};
 
-use rules::{Checked, Counts, Outcome};
+use rules::{Counts, Outcome};
 use tokens::word_at;
 
-fn refused(number: u32, place: usize) -> Outcome
-    ensures { result ≡ convert_outcome (unconverted number place) }
-{
-    Outcome {
-        refusal: number,
-        place: place as u64,
-        length: 0,
-    }
-}
-
 // A sheet that checks 1 to 4 found sound.
+#[tactic(auto, unfolding(converted::specs::Converted::convert_as, converted::specs::Converted::convert_outcome, converted::specs::Converted::sheet_after, converted::specs::Converted::converted, rules::specs::Answer::is_withdrawn))]
 fn convert_sound(sheet: &mut [u8], c: Counts) -> Outcome
     requires { Sheeted sheet.old c }
-    ensures value { result ≡ convert_outcome (convert_as sheet.old (found.Sound c)) }
-    ensures sheet_after { sheet.new ≡ sheet_after sheet.old (convert_as sheet.old (found.Sound c)) }
+    ensures value { result ≡ convert_outcome (convert_as sheet.old (Ok c)) }
+    ensures sheet_after { sheet.new ≡ sheet_after sheet.old (convert_as sheet.old (Ok c)) }
 {
     if word_at(sheet, 28) != 1 {
         return Outcome {
@@ -41,16 +31,17 @@ fn convert_sound(sheet: &mut [u8], c: Counts) -> Outcome
 }
 
 // Of any bytes; a refusal is known before the sheet is written to.
+#[tactic(auto, unfolding(converted::specs::Converted::convert, converted::specs::Converted::convert_as, converted::specs::Converted::convert_outcome, converted::specs::Converted::sheet_after))]
 pub fn convert(sheet: &mut [u8]) -> Outcome
     ensures value { result ≡ convert_outcome (convert_of sheet.old) }
     ensures sheet_after { sheet.new ≡ sheet_after sheet.old (convert_of sheet.old) }
 {
-    let found = checks::check(sheet);
-    match found {
-        Checked::Sound(c) => convert_sound(sheet, c),
-        Checked::Size => refused(1, 0),
-        Checked::Word(p) => refused(2, p),
-        Checked::Place(p) => refused(3, p),
-        Checked::Byte(p) => refused(4, p),
+    match checks::check(sheet) {
+        Ok(c) => convert_sound(sheet, c),
+        Err(offence) => Outcome {
+            refusal: offence.number(),
+            place: offence.place() as u64,
+            length: 0,
+        },
     }
 }

@@ -1,13 +1,13 @@
 -- The converting call, and the compacting call on a sheet that is converted later.
+use Rattle.rules.specs.declared.Offence.TheVariants as offence
+use Rattle.rules.specs.declared.Offence.{Offence}
 use mathlib.Core.Path.{◌≡◌, refl}
 use mathlib.Core.List.{List}
 use Prim.Native.Nat.{ℕ, ◌≤◌}
 use native.Mathlib.Omega.{arith}
 use Rattle.rules.specs.declared.Counts.{Counts}
-use Rattle.rules.specs.declared.Checked.{Checked}
-use Rattle.rules.specs.declared.Checked.TheVariants as found
 use Rattle.rules.specs.declared.Outcome.{Outcome}
-use Rattle.std.specs.Prelude.{if◌then◌else◌}
+use Rattle.std.specs.Prelude.{if◌then◌else◌, Err, Ok, Result}
 use Rattle.rules.specs.Checks.{checked}
 use Rattle.rules.specs.Compacted.{compact, outcome_of, buffer_with}
 use Rattle.compacted.proofs.Call.{call_written}
@@ -20,7 +20,7 @@ use Rattle.converted.proofs.Theorem.{still-sound, converted-again, commutes, sto
 -- ---- the converting call
 
 module _ (s : List ℕ) where
-  laid : (c : Counts) → checked s ≡ found.Sound c → Converts s (record { refusal = 0; place = 0; length = (if is_withdrawn s then 1 else 0) }) (converted s)
+  laid : (c : Counts) → checked s ≡ Ok c → Converts s (record { refusal = 0; place = 0; length = (if is_withdrawn s then 1 else 0) }) (converted s)
   laid c h =
       let a = alike s in
       record {
@@ -37,7 +37,7 @@ module _ (s : List ℕ) where
       }
 
   -- what the checks found, if it is not sound
-  turned_down : (n p : ℕ) → n ≤ 4 → (n ≡ 0 → ⊥) → ((c : Counts) → checked s ≡ found.Sound c → ⊥) → Converts s (record { refusal = n; place = p; length = 0 }) s
+  turned_down : (n p : ℕ) → n ≤ 4 → (n ≡ 0 → ⊥) → ((c : Counts) → checked s ≡ Ok c → ⊥) → Converts s (record { refusal = n; place = p; length = 0 }) s
   turned_down n p l z never =
       record {
         others = λ i e. refl;
@@ -52,13 +52,13 @@ module _ (s : List ℕ) where
         refused = λ e. refl;
       }
 
-  converts-so : (k : Checked) → checked s ≡ k → Converts s (convert_outcome (convert_as s k)) (sheet_after s (convert_as s k))
+  converts-so : (k : Result Counts Offence) → checked s ≡ k → Converts s (convert_outcome (convert_as s k)) (sheet_after s (convert_as s k))
   unfolding convert_as convert_outcome sheet_after
-  converts-so (found.Sound c) h = laid c h
-  converts-so found.Size h = turned_down 1 0 (omega arith) (λ e. omega arith) (λ c g. let z : ◌≡◌ {A = ℕ} 0 1 = cc in omega arith)
-  converts-so (found.Word p) h = turned_down 2 p (omega arith) (λ e. omega arith) (λ c g. let z : ◌≡◌ {A = ℕ} 0 1 = cc in omega arith)
-  converts-so (found.Place p) h = turned_down 3 p (omega arith) (λ e. omega arith) (λ c g. let z : ◌≡◌ {A = ℕ} 0 1 = cc in omega arith)
-  converts-so (found.Byte p) h = turned_down 4 p (omega arith) (λ e. omega arith) (λ c g. let z : ◌≡◌ {A = ℕ} 0 1 = cc in omega arith)
+  converts-so (Ok c) h = laid c h
+  converts-so (Err offence.Size) h = turned_down 1 0 (omega arith) (λ e. omega arith) (λ c g. cc)
+  converts-so (Err (offence.Word p)) h = turned_down 2 p (omega arith) (λ e. omega arith) (λ c g. cc)
+  converts-so (Err (offence.Place p)) h = turned_down 3 p (omega arith) (λ e. omega arith) (λ c g. cc)
+  converts-so (Err (offence.Byte p)) h = turned_down 4 p (omega arith) (λ e. omega arith) (λ c g. cc)
 
 -- any outcome and sheet that the call's two equations allow
 pub call_converts : (s : List ℕ) (r : Outcome) (t : List ℕ) → r ≡ convert_outcome (convert s) → t ≡ sheet_after s (convert s) → Converts s r t

@@ -7,8 +7,7 @@ use native.Mathlib.Omega.{arith}
 use lib.Dec.{leb}
 use lib.ListN.{set}
 use Rattle.rules.specs.declared.Counts.{Counts}
-use Rattle.rules.specs.declared.Offence.{Offence}
-use Rattle.std.specs.Prelude.{if◌then◌else◌}
+use Rattle.std.specs.Prelude.{if◌then◌else◌, Option, ℕ}
 use Rattle.rules.specs.Words.{word_at, tokens_at, params_at, keeps_at, body_at, counts_of}
 use Rattle.rules.specs.Checks.{first_of, sizes, head_words, token_words, param_words, words, token_places, param_places, keep_places, places, body_byte, body_bytes, checked_as, checked}
 use Rattle.rules.specs.Answer.{is_withdrawn}
@@ -16,7 +15,7 @@ use Rattle.converted.specs.Converted.{converted}
 use Rattle.converted.proofs.Laws.{Alike, word-before, word_after, place_after, same-counts, set-alike, word-one, word_two}
 
 -- records that offend alike behind byte 28
-same_first : (f g : ℕ → Offence) (size at k : ℕ) → 28 < at → ((b : ℕ) → 28 < b → f b ≡ g b) → first_of f size at k ≡ first_of g size at k
+same_first : (f g : ℕ → Option ℕ) (size at k : ℕ) → 28 < at → ((b : ℕ) → 28 < b → f b ≡ g b) → first_of f size at k ≡ first_of g size at k
 unfolding first_of
 same_first f g size at zero l h = refl
 same_first f g size at (suc k) l h = rw (h at l, same_first f g size (at + size) k (omega arith) h)

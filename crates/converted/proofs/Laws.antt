@@ -106,7 +106,7 @@ unfolding converted
 none_left s = left_by s (is_withdrawn s) refl
 
 pub not_one : (s : List ℕ) → word_at (converted s) 28 ≡ 1 → ⊥
-not_one s e = let w = one-withdrawn (converted s) e in let n = none_left s in let z : ◌≡◌ {A = ℕ} 0 1 = cc in omega arith
+not_one s e = let w = one-withdrawn (converted s) e in let n = none_left s in cc
 
 pub twice : (s : List ℕ) → converted (converted s) ≡ converted s
 twice s = not-withdrawn (converted s) (none_left s)

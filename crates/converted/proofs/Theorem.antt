@@ -1,9 +1,9 @@
 -- Wish 12: what a converted sheet is to the sheet that it was made of, and Wish 6 on converted sheets.
+use Rattle.std.specs.Prelude.{Ok}
 use mathlib.Core.Path.{◌≡◌, ◌∙◌}
 use mathlib.Core.List.{List}
 use Prim.Native.Nat.{ℕ}
 use Rattle.rules.specs.declared.Counts.{Counts}
-use Rattle.rules.specs.declared.Checked.TheVariants as found
 use Rattle.rules.specs.Checks.{checked}
 use Rattle.rules.specs.Compacted.{compacted, SameSheet}
 use Rattle.checks.proofs.Sound.{sound-sheeted}
@@ -13,9 +13,9 @@ use Rattle.converted.proofs.Laws.{none_left, twice}
 use Rattle.converted.proofs.Checked.{same_check}
 use Rattle.converted.proofs.Commutes.{commute}
 
-module _ (s : List ℕ) (c : Counts) (h : checked s ≡ found.Sound c) where
+module _ (s : List ℕ) (c : Counts) (h : checked s ≡ Ok c) where
   -- it passes checks 1 to 4, with the same counts
-  pub still-sound : checked (converted s) ≡ found.Sound c
+  pub still-sound : checked (converted s) ≡ Ok c
   still-sound = same_check s ∙ h
 
   -- converting it changes nothing

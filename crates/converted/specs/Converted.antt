@@ -1,9 +1,9 @@
 -- Wish 12: word 7 at 1 is withdrawn. What converting a stored sheet gives.
-use Rattle.std.specs.Prelude.{if◌then◌else◌, List, ℕ, set}
-use Rattle.rules.specs.declared.Checked.{Checked}
-use Rattle.rules.specs.declared.Checked.TheVariants as found
+use Rattle.rules.specs.declared.Counts.{Counts}
+use Rattle.rules.specs.declared.Offence.{Offence}
+use Rattle.std.specs.Prelude.{if◌then◌else◌, List, ℕ, set, Err, Ok, Result}
 use Rattle.rules.specs.declared.Outcome.{Outcome}
-use Rattle.rules.specs.Checks.{checked}
+use Rattle.rules.specs.Checks.{checked, number_of, place_of}
 use Rattle.rules.specs.Answer.{is_withdrawn}
 
 -- ---- the sheet
@@ -19,12 +19,9 @@ pub data Conversion : Type 0 where
   converts : List ℕ → ℕ → Conversion
   refusal : ℕ → ℕ → Conversion
 
-unfoldable pub convert_as : List ℕ → Checked → Conversion
-convert_as s (found.Sound c) = converts (converted s) (if is_withdrawn s then 1 else 0)
-convert_as s found.Size = refusal 1 0
-convert_as s (found.Word p) = refusal 2 p
-convert_as s (found.Place p) = refusal 3 p
-convert_as s (found.Byte p) = refusal 4 p
+unfoldable pub convert_as : List ℕ → Result Counts Offence → Conversion
+convert_as s (Ok c) = converts (converted s) (if is_withdrawn s then 1 else 0)
+convert_as s (Err o) = refusal (number_of o) (place_of o)
 
 unfoldable pub convert : List ℕ → Conversion
 convert s = convert_as s (checked s)

@@ -1,7 +1,6 @@
 -- Wish 12 for its reader: what the converting call gives, and what a compacted sheet that was stored with word 7 at 1 is.
-use Rattle.std.specs.Prelude.{◌≡◌, List, ℕ, ◌≤◌, length, take, get_or}
+use Rattle.std.specs.Prelude.{◌≡◌, List, ℕ, ◌≤◌, length, take, get_or, Ok}
 use Rattle.rules.specs.declared.Counts.{Counts}
-use Rattle.rules.specs.declared.Checked.TheVariants as found
 use Rattle.rules.specs.declared.Outcome.{Outcome}
 use Rattle.rules.specs.Words.{word_at}
 use Rattle.rules.specs.Checks.{checked}
@@ -14,7 +13,7 @@ pub record Converts (s : List ℕ) (r : Outcome) (t : List ℕ) : Type 0 where
   pub others : (i : ℕ) → (i ≡ 28 → ⊥) → get_or t i 0 ≡ get_or s i 0
   pub longs : length t ≡ length s
   -- a sheet that passes checks 1 to 4 is not refused, and the new one passes them with the same counts
-  pub sound : (c : Counts) → checked s ≡ found.Sound c → (r.refusal ≡ 0) × (checked t ≡ found.Sound c)
+  pub sound : (c : Counts) → checked s ≡ Ok c → (r.refusal ≡ 0) × (checked t ≡ Ok c)
   -- where nothing is refused, 1 becomes 2, and every other word 7 stays; so it is not 1
   pub becomes : r.refusal ≡ 0 → word_at s 28 ≡ 1 → word_at t 28 ≡ 2
   pub not_one : r.refusal ≡ 0 → word_at t 28 ≡ 1 → ⊥
@@ -22,7 +21,7 @@ pub record Converts (s : List ℕ) (r : Outcome) (t : List ℕ) : Type 0 where
   -- converting the new sheet changes nothing
   pub again : r.refusal ≡ 0 → convert t ≡ converts t 0
   -- compacting and converting may be done in either order
-  pub commutes : (c : Counts) → checked s ≡ found.Sound c → compacted t c ≡ converted (compacted s c)
+  pub commutes : (c : Counts) → checked s ≡ Ok c → compacted t c ≡ converted (compacted s c)
   -- a refusal is one of 1 to 4, and leaves the sheet as it came
   pub numbers : r.refusal ≤ 4
   pub refused : (r.refusal ≡ 0 → ⊥) → t ≡ s

@@ -1,45 +1,22 @@
 -- The code's rows are the rules' rows, by one computation over the whole table; and a step of the recogniser. Assumes nothing.
-use mathlib.Core.Path.{◌≡◌, refl, sym, ap, ◌∙◌}
-use mathlib.Core.Logic.{⊎_elim}
-use mathlib.Core.Bool.{Bool, true, false, ◌||◌}
-use mathlib.Core.Option.{Option, none, some}
-use mathlib.Core.List.{List, [], ◌∷◌, ◌++◌, map}
+use Rattle.std.proofs.Common.{◌≡◌, refl, sym, ap, ◌∙◌, Bool, true, false, ◌||◌, Option, None, Some, List, [], ◌∷◌, map, ℕ, ◌<◌, length, get_or, eqb}
+use Rattle.std.proofs.Math.Bool.{or-false}
+use Rattle.std.proofs.lemmas.List.{get_or-map}
+use Rattle.std.specs.Prelude.{if◌then◌else◌}
 use Prim.Native.String.{String}
-use Prim.Native.Nat.{ℕ, zero, suc, ◌+◌, ◌<◌}
-use native.Mathlib.Numerals.{lt_of_le_of_ne}
-use native.Mathlib.Omega.{arith}
-use lib.Dec.{eqb}
-use lib.ListN.{length, get_or}
 use borrow.Author.Tests.{eqb-true}
-use Rattle.stacks.proofs.StackLaws.{same_or}
 use Rattle.rules.specs.Bytes.{bytes}
 use Rattle.rules.specs.Base.{any_of, first}
-use Rattle.std.specs.Prelude.{if◌then◌else◌}
-use Rattle.rules.specs.Switch.{answer, OnLetters, ◌↪◌, fmt_table, in_state, moved_by, moved_to, moved}
+use Rattle.rules.specs.Switch.{OnLetters, ◌↪◌, fmt_table, in_state, moved_by, moved_to, moved}
 use Rattle.fmt_switch.specs.declared.Move.{Move}
 use Rattle.fmt_switch.specs.declared.Move.TheVariants as move
 use Rattle.fmt_switch.specs.declared.OnByte.{OnByte}
 use Rattle.fmt_switch.specs.declared.Row.{Row}
-use Rattle.fmt_switch.specs.Of.{letters_of, says_on, entry_of, row_of, ends, says_nothing, moved_as}
-
-get_or-map : {A B : Type 0} (f : A → B) (l : List A) (n : ℕ) (a : A) (b : B) → n < length l → f (get_or l n a) ≡ get_or (map f l) n b
-get_or-map f [] n a b h = absurd (omega arith)
-get_or-map f (x ∷ l) zero a b h = refl
-get_or-map f (x ∷ l) (suc n) a b h = get_or-map f l n a b (omega arith)
-
-neither : (a b : Bool) → (a || b) ≡ false → (a ≡ false) × (b ≡ false)
-neither true b e = absurd (let z : ◌≡◌ {A = ℕ} 0 1 = cc in omega arith)
-neither false b e = (refl, e)
+use Rattle.fmt_switch.specs.Of.{letters_of, says_on, entry_of, entries_of, row_of, moved_as}
 
 -- the rows of any table that says what the rules' table says
 row-said : (rows : List Row) (d : Row) (n : ℕ) → map row_of rows ≡ fmt_table → n < length rows → row_of (get_or rows n d) ≡ get_or fmt_table n []
-row-said rows d n e h = get_or-map row_of rows n d [] h ∙ ap (λ (l : List (List OnLetters)). get_or l n []) e
-
--- no row starts with an entry that ends the reading
-row-starts : (rows : List Row) (d : Row) (n : ℕ) → any_of says_nothing rows ≡ false → n < length rows → says_nothing (get_or rows n d) ≡ false
-row-starts [] d n e h = absurd (omega arith)
-row-starts (r ∷ rows) d zero e h = (neither (says_nothing r) (any_of says_nothing rows) e).0
-row-starts (r ∷ rows) d (suc n) e h = row-starts rows d n (neither (says_nothing r) (any_of says_nothing rows) e).1 (omega arith)
+row-said rows d n e h = sym (get_or-map row_of rows n d [] h) ∙ ap (λ (l : List (List OnLetters)). get_or l n []) e
 
 -- ---- the code's table
 
@@ -47,10 +24,10 @@ abbrev on : String → Move → OnByte
 on letters m = record { 0 = get_or (bytes letters) 0 0; 1 = get_or (bytes letters) 1 0; 2 = m }
 
 abbrev alone : OnByte → Row
-alone e = record { 0 = e; 1 = record { 0 = 0; 1 = 0; 2 = move.Ends } }
+alone e = record { 0 = e; 1 = None }
 
 abbrev and : OnByte → OnByte → Row
-and e f = record { 0 = e; 1 = f }
+and e f = record { 0 = e; 1 = Some f }
 
 abbrev pub rows : List Row
 rows =
@@ -61,37 +38,18 @@ rows =
     ∷ alone (on "tT" move.Next)
     ∷ and (on "  " move.Stay) (on "::" move.Next)
     ∷ and (on "  " move.Stay) (on "oO" move.Next)
-    ∷ and (on "nN" move.On) (on "fF" move.Next)
-    ∷ alone (on "fF" move.Off)
+    ∷ and (on "nN" (move.Answer false)) (on "fF" move.Next)
+    ∷ alone (on "fF" (move.Answer true))
     ∷ []
 
 table-right : map row_of rows ≡ fmt_table
-unfolding letters_of says_on entry_of row_of ◌↪◌ fmt_table
+unfolding letters_of says_on entry_of entries_of row_of ◌↪◌ fmt_table
 table-right = refl
 
-table-says : any_of says_nothing rows ≡ false
-unfolding ends says_nothing
-table-says = refl
-
-module _ (d : Row) (n : ℕ) (h : n < 9) where
-  pub row_is : row_of (get_or rows n d) ≡ get_or fmt_table n []
-  row_is = row-said rows d n table-right h
-
-  pub row-says : says_nothing (get_or rows n d) ≡ false
-  row-says = row-starts rows d n table-says h
+pub row_is : (d : Row) (n : ℕ) → n < 9 → row_of (get_or rows n d) ≡ get_or fmt_table n []
+row_is d n h = row-said rows d n table-right h
 
 -- ---- one byte
-
-abbrev pub found : ℕ → List OnLetters → Option OnLetters
-found c row = first (λ m. any_of (eqb c) m.letters) row
-
-append-none : {A : Type 0} (l : List A) → (l ++ []) ≡ l
-append-none [] = refl
-append-none (x ∷ l) = ap (λ (m : List _). x ∷ m) (append-none l)
-
-or-false : (b : Bool) → (b || false) ≡ b
-or-false true = refl
-or-false false = refl
 
 or_same : (b : Bool) → b ≡ (b || b)
 or_same true = refl
@@ -105,77 +63,57 @@ any_letter c a b = go (eqb a b) refl
     go true e = rw (or-false, ← eqb-true a b e) (or_same (eqb c a))
     go false e = rw or-false
 
--- an entry, and what comes after it: it is found by its letters, unless it ends the reading
-module _ (state c : ℕ) (e : OnByte) (rest : List OnLetters) (b : Bool) (eb : b ≡ (eqb c e.0 || eqb c e.1)) where
-  has-is : any_of (eqb c) (letters_of e.0 e.1) ≡ b
-  has-is = any_letter c e.0 e.1 ∙ sym eb
+abbrev pub has : OnByte → ℕ → Bool
+has e c = eqb c e.0 || eqb c e.1
 
-  passed-by : b ≡ false → found c (entry_of e ++ rest) ≡ found c rest
-  unfolding entry_of says_on
-  passed-by h = go e.2
-    where
-      go : (m : Move) → found c (says_on m (letters_of e.0 e.1) ++ rest) ≡ found c rest
-      go move.Stay = rw (has-is, h)
-      go move.Next = rw (has-is, h)
-      go move.On = rw (has-is, h)
-      go move.Off = rw (has-is, h)
-      go move.Ends = refl
+abbrev found : ℕ → List OnLetters → Option OnLetters
+found c row = first (λ m. any_of (eqb c) m.letters) row
 
-  taken-by : b ≡ true → (e.2 ≡ move.Ends → found c rest ≡ none) → moved_as state e.2 ≡ moved_to state (found c (entry_of e ++ rest))
-  unfolding entry_of says_on moved_as moved_to moved_by
-  taken-by h ends = go e.2 ends
-    where
-      go : (m : Move) → (m ≡ move.Ends → found c rest ≡ none) → moved_as state m ≡ moved_to state (found c (says_on m (letters_of e.0 e.1) ++ rest))
-      go move.Stay z = rw (has-is, h)
-      go move.Next z = rw (has-is, h)
-      go move.On z = rw (has-is, h)
-      go move.Off z = rw (has-is, h)
-      go move.Ends z = rw (z refl)
+-- an entry is found by its letters
+has-is : (c : ℕ) (e : OnByte) → any_of (eqb c) (entry_of e).letters ≡ has e c
+unfolding entry_of says_on
+has-is c e = go e.2
+  where
+    go : (m : Move) → any_of (eqb c) (says_on m (letters_of e.0 e.1)).letters ≡ has e c
+    go move.Stay = any_letter c e.0 e.1
+    go move.Next = any_letter c e.0 e.1
+    go (move.Answer off) = any_letter c e.0 e.1
 
-false_true : {A : Type 0} → true ≡ false → A
-false_true e = absurd (let z : ◌≡◌ {A = ℕ} 0 1 = cc in omega arith)
+moves-as : (state : ℕ) (e : OnByte) → moved_as state (Some e.2) ≡ moved_by state (entry_of e).move
+unfolding entry_of says_on moved_as moved_by
+moves-as state e = go e.2
+  where
+    go : (m : Move) → moved_as state (Some m) ≡ moved_by state (says_on m (letters_of e.0 e.1)).move
+    go move.Stay = refl
+    go move.Next = refl
+    go (move.Answer off) = refl
 
-no_end : (m : Move) {A : Type 0} → ends m ≡ false → m ≡ move.Ends → A
-unfolding ends
-no_end m h e = false_true (rw e at h)
-
-module _ (state c : ℕ) (row : Row) (said : row_of row ≡ get_or fmt_table state []) (first_says : says_nothing row ≡ false) (a : Bool) (ea : a ≡ (eqb c row.0.0 || eqb c row.0.1)) where
+module _ (state c : ℕ) (row : Row) (said : row_of row ≡ get_or fmt_table state []) (a : Bool) (ea : a ≡ has row.0 c) where
   moved-is : moved_to state (found c (row_of row)) ≡ moved (in_state state) c
   unfolding moved
   moved-is = rw said
 
-  pub by_first : (m : Move) → m ≡ row.0.2 → a ≡ true → moved_as state m ≡ moved (in_state state) c
-  unfolding row_of says_nothing
-  by_first m em h = rw em (taken-by state c row.0 (entry_of row.1) a ea h (no_end row.0.2 first_says) ∙ moved-is)
+  pub by_first : a ≡ true → moved_as state (Some row.0.2) ≡ moved (in_state state) c
+  unfolding row_of moved_to
+  by_first h = moves-as state row.0 ∙ (rw (has-is c row.0, ← ea, h) at moved-is)
 
-  module _ (b : Bool) (eb : b ≡ (eqb c row.1.0 || eqb c row.1.1)) (h : a ≡ false) where
-    after_first : moved_to state (found c (entry_of row.1 ++ [])) ≡ moved (in_state state) c
+  -- past the first entry
+  module _ (h : a ≡ false) where
+    after_first : moved_to state (found c (entries_of row.1)) ≡ moved (in_state state) c
     unfolding row_of
-    after_first = rw append-none (ap (moved_to state) (sym (passed-by state c row.0 (entry_of row.1) a ea h)) ∙ moved-is)
+    after_first = rw (has-is c row.0, ← ea, h) at moved-is
 
-    pub by-second : (m : Move) → m ≡ row.1.2 → b ≡ true → moved_as state m ≡ moved (in_state state) c
-    by-second m em g = rw em (taken-by state c row.1 [] b eb g (λ z. refl) ∙ after_first)
+    pub by-none : row.1 ≡ None → moved_as state None ≡ moved (in_state state) c
+    unfolding entries_of moved_as moved_to
+    by-none n = rw n at after_first
 
-    pub by-neither : b ≡ false → moved_as state move.Ends ≡ moved (in_state state) c
-    unfolding moved_as moved_to
-    by-neither g = ap (moved_to state) (sym (passed-by state c row.1 [] b eb g)) ∙ after_first
+    module _ (e : OnByte) (two : row.1 ≡ Some e) (b : Bool) (eb : b ≡ has e c) where
+      pub by-second : b ≡ true → moved_as state (Some e.2) ≡ moved (in_state state) c
+      unfolding entries_of moved_to
+      by-second g = moves-as state e ∙ (rw (two, has-is c e, ← eb, g) at after_first)
 
--- ---- the last state has no next
+      pub by-neither : b ≡ false → moved_as state None ≡ moved (in_state state) c
+      unfolding entries_of moved_as moved_to
+      by-neither g = rw (two, has-is c e, ← eb, g) at after_first
 
-last-answers : (b : Bool) → moved_to 8 (if b then some ("fF" ↪ answer true) else none) ≡ in_state 9 → ⊥
-unfolding moved_to moved_by ◌↪◌
-last-answers true e = let z : ◌≡◌ {A = ℕ} 0 1 = cc in omega arith
-last-answers false e = let z : ◌≡◌ {A = ℕ} 0 1 = cc in omega arith
-
-last-ends : (c : ℕ) → moved (in_state 8) c ≡ in_state 9 → ⊥
-unfolding moved fmt_table ◌↪◌
-last-ends c e = last-answers (any_of (eqb c) (bytes "fF")) e
-
--- so the next state is one of the nine
-pub still-state : (state c : ℕ) (m : Move) → state < 9 → m ≡ move.Next → moved_as state m ≡ moved (in_state state) c → state + 1 < 9
-unfolding moved_as
-still-state state c m h n e =
-    ⊎_elim
-    (λ (p : state ≡ 8). absurd (last-ends c (sym (rw (n, p) at e))))
-    (λ (p : state ≡ 8 → ⊥). let g : state < 8 = lt_of_le_of_ne (omega arith) p in omega arith)
-    (same_or state 8)
+pub ruleset steps = (by_first, by-none, by-second, by-neither)

@@ -1,27 +1,11 @@
--- Two results that stand for the same answer, or for the same switch, are one. Assumes nothing.
-use mathlib.Core.Path.{◌≡◌, refl, sym, ap, ◌∙◌}
-use mathlib.Core.Bool.{Bool, true, false}
-use mathlib.Core.Option.{Option, none, some}
-use Rattle.rules.specs.Switch.{Switch}
-use Rattle.fmt_switch.specs.declared.Said.{Said}
-use Rattle.fmt_switch.specs.declared.Said.TheVariants as said
+-- Two results that fit the promise are one: of the reading of a comment, and of the switch. Assumes nothing.
+use Rattle.std.proofs.Common.{◌≡◌, sym, ap, ◌∙◌, Bool, Option, List, ℕ}
+use Rattle.rules.specs.Switch.{Switch, check_fmt_off}
 use Rattle.fmt_switch.specs.declared.Switch.{Switch as Code}
-use Rattle.fmt_switch.specs.Of.{said_of, switch_of}
+use Rattle.fmt_switch.specs.Of.{switch_of}
 
--- back from what is said
-said-by : Option Bool → Said
-said-by (some true) = said.Off
-said-by (some false) = said.On
-said-by none = said.Nothing
-
-said-back : (r : Said) → said-by (said_of r) ≡ r
-unfolding said-by said_of
-said-back said.On = refl
-said-back said.Off = refl
-said-back said.Nothing = refl
-
-pub said-one : (r q : Said) → said_of r ≡ said_of q → r ≡ q
-said-one r q e = sym (said-back r) ∙ ap said-by e ∙ said-back q
+pub said-one : (v : List ℕ) (r q : Option Bool) → r ≡ check_fmt_off v → q ≡ check_fmt_off v → r ≡ q
+said-one v r q e f = e ∙ sym f
 
 pub switch-one : (r q : Code) → switch_of r ≡ switch_of q → r ≡ q
 unfolding switch_of

@@ -1,22 +1,18 @@
 // formatter.rs, `check_fmt_off` and how `format` takes a token.
 #![tactic(auto)]
 
-ghost use Rattle.std.specs.Prelude.{◌≡◌, false, ◌||◌, [], ◌+◌, ◌≤◌, ◌<◌, eqb, length, get_or, take, drop};
-ghost use Rattle.std.proofs.Math.Option.{none};
-ghost use Rattle.ascii.specs.Part.{part};
+ghost use Rattle.std.specs.Prelude.{◌≡◌, ◌||◌, [], ◌+◌, ◌≤◌, ◌<◌, eqb, length, get_or, take, drop};
 ghost use Rattle.rules.specs.Switch.{fmt_table, in_state, moved, check_fmt_off, turn_by, turn_of, switch_after, switched_on};
-ghost use Rattle.fmt_switch.specs.Of.{row_of, says_nothing, moved_as, run_of, said_of, switch_of};
+ghost use Rattle.fmt_switch.specs.Of.{row_of, moved_as, run_of, switch_of};
 
 use rules::{TokenKind, Turn};
 
-// What a state does on a byte: it stays, goes on to the next, or answers on or off; without an entry for the byte the reading ends.
+// What a state does on a byte: it stays, goes on to the next, or answers that the comment switches off (true) or on.
 #[derive(Clone, Copy)]
 pub enum Move {
     Stay,
     Next,
-    On,
-    Off,
-    Ends,
+    Answer(bool),
 }
 
 // On either of two bytes: a letter, small and large.
@@ -24,44 +20,36 @@ pub enum Move {
 pub struct OnByte(pub u8, pub u8, pub Move);
 
 #[derive(Clone, Copy)]
-pub struct Row(pub OnByte, pub OnByte);
-
-// Where a row has one entry alone.
-const NO_MORE: OnByte = OnByte(0, 0, Move::Ends);
+pub struct Row(pub OnByte, pub Option<OnByte>);
 
 // Nine states against the bytes they move on.
 const FMT_TABLE: [Row; 9] = [
-    Row(OnByte(b'-', b'-', Move::Next), NO_MORE),
-    Row(OnByte(b'-', b'-', Move::Next), NO_MORE),
+    Row(OnByte(b'-', b'-', Move::Next), None),
+    Row(OnByte(b'-', b'-', Move::Next), None),
     Row(
         OnByte(b' ', b' ', Move::Stay),
-        OnByte(b'f', b'F', Move::Next),
+        Some(OnByte(b'f', b'F', Move::Next)),
     ),
-    Row(OnByte(b'm', b'M', Move::Next), NO_MORE),
-    Row(OnByte(b't', b'T', Move::Next), NO_MORE),
+    Row(OnByte(b'm', b'M', Move::Next), None),
+    Row(OnByte(b't', b'T', Move::Next), None),
     Row(
         OnByte(b' ', b' ', Move::Stay),
-        OnByte(b':', b':', Move::Next),
+        Some(OnByte(b':', b':', Move::Next)),
     ),
     Row(
         OnByte(b' ', b' ', Move::Stay),
-        OnByte(b'o', b'O', Move::Next),
+        Some(OnByte(b'o', b'O', Move::Next)),
     ),
-    Row(OnByte(b'n', b'N', Move::On), OnByte(b'f', b'F', Move::Next)),
-    Row(OnByte(b'f', b'F', Move::Off), NO_MORE),
+    Row(
+        OnByte(b'n', b'N', Move::Answer(false)),
+        Some(OnByte(b'f', b'F', Move::Next)),
+    ),
+    Row(OnByte(b'f', b'F', Move::Answer(true)), None),
 ];
-
-// What a comment says.
-#[derive(Drop)]
-pub enum Said {
-    On,
-    Off,
-    Nothing,
-}
 
 fn row_of(state: usize) -> Row
     requires { state < 9 }
-    ensures { (row_of result ≡ get_or fmt_table state []) × (says_nothing result ≡ false) }
+    ensures { row_of result ≡ get_or fmt_table state [] }
 {
     FMT_TABLE[state]
 }
@@ -70,78 +58,54 @@ impl OnByte {
     fn has(self, c: u8) -> bool
         ensures { result ≡ (eqb c self.0 || eqb c self.1) }
     {
-        if c == self.0 {
-            return true;
-        }
-        c == self.1
+        c == self.0 || c == self.1
     }
 }
 
-fn move_on(state: usize, c: u8) -> Move
+// Without an entry for the byte the reading ends.
+#[tactic(auto, using(crate::proofs::Table::steps))]
+fn move_on(state: usize, c: u8) -> Option<Move>
     requires { state < 9 }
     ensures { moved_as state result ≡ moved (in_state state) c }
 {
-    let row = row_of(state);
-    let one = row.0;
-    let two = row.1;
+    let Row(one, two) = row_of(state);
     if one.has(c) {
-        let m = one.2;
-        return m;
+        return Some(one.2);
     }
-    if two.has(c) {
-        let m = two.2;
-        return m;
+    match two {
+        Some(two) if two.has(c) => Some(two.2),
+        _ => None,
     }
-    Move::Ends
 }
 
-// How many bytes from start on are c.
-fn run_of(s: &[u8], start: usize, n: usize, c: u8) -> usize
-    requires { start + n ≤ length s.now }
-    ensures { (result ≡ run_of c (part s.now start n)) × (result ≤ n) }
+// How many bytes at the start are c.
+fn run_of(s: &[u8], c: u8) -> usize
+    ensures { (result ≡ run_of c s.now) × (result ≤ length s.now) }
 {
-    let mut i: usize = 0;
-    while i < n {
-        if s[start + i] != c {
-            return i;
-        }
-        i += 1;
-    }
-    i
+    s.iter().take_while(|x| **x == c).count()
 }
 
 // A comment is read by prefix: what follows the answer is not.
-pub fn check_fmt_off(s: &[u8], start: usize, n: usize) -> Said
+#[inline(never)]
+#[tactic(auto, using(crate::proofs::Laws::reads))]
+pub fn check_fmt_off(s: &[u8], start: usize, n: usize) -> Option<bool>
     requires { start + n ≤ length s.now }
-    ensures { said_of result ≡ check_fmt_off (take n (drop start s.now)) }
+    ensures { result ≡ check_fmt_off (take n (drop start s.now)) }
 {
+    let mut rest = &s[start..start + n];
     let mut state: usize = 0;
-    let mut i: usize = 0;
-    while i < n {
-        let c = s[start + i];
-        let m = move_on(state, c);
-        match m {
-            Move::Stay => {
-                // Bytes that are the same leave the state as well.
-                i += run_of(s, start + i, n - i, c);
-                continue;
-            }
+    while let Some((c, after)) = rest.split_first() {
+        rest = match move_on(state, *c)? {
+            // Bytes that are the same leave the state as well.
+            Move::Stay => &after[run_of(after, *c)..],
             Move::Next => {
                 state += 1;
+                after
             }
-            Move::On => {
-                return Said::On;
-            }
-            Move::Off => {
-                return Said::Off;
-            }
-            Move::Ends => {
-                return Said::Nothing;
-            }
-        }
-        i += 1;
+            Move::Answer(off) => return Some(off),
+        };
     }
-    Said::Nothing
+    None
 }
 
 // `is_fmt_enabled` and `is_prev_token_fmt_switch`.
@@ -151,23 +115,19 @@ pub struct Switch {
     pub drop_next: bool,
 }
 
-fn turn_by(enabled: bool) -> Turn
-    ensures { result ≡ turn_by enabled none }
-{
-    if enabled { Turn::LaidOut } else { Turn::Copied }
-}
-
-fn turn_said(enabled: bool, said: Said) -> Turn
-    ensures { result ≡ turn_by enabled (said_of said) }
+#[tactic(auto, unfolding(rules::specs::Switch::turn_by))]
+fn turn_by(enabled: bool, said: Option<bool>) -> Turn
+    ensures { result ≡ turn_by enabled said }
 {
     match said {
-        Said::On => Turn::Switches(false),
-        Said::Off => Turn::Switches(true),
-        Said::Nothing => turn_by(enabled),
+        Some(off) => Turn::Switches(off),
+        None if enabled => Turn::LaidOut,
+        None => Turn::Copied,
     }
 }
 
 impl Switch {
+    #[tactic(auto, unfolding(crate::specs::Of::switch_of, rules::specs::Switch::switched_on))]
     pub fn new() -> Self
         ensures { switch_of result ≡ switched_on }
     {
@@ -177,37 +137,37 @@ impl Switch {
         }
     }
 
-    // How a token of a kind and a value is taken. Only comments are read: the reading has a call for each kind of them, so that this stays small enough to stand in its callers' loops.
+    // How a token of a kind and a value is taken. Only comments are read.
+    #[tactic(auto, using(crate::proofs::Laws::takes))]
     pub fn turn_of(self, kind: TokenKind, s: &[u8], start: usize, n: usize) -> Turn
         requires { start + n ≤ length s.now }
         ensures { result ≡ turn_of (switch_of self) kind (take n (drop start s.now)) }
     {
-        let enabled = self.enabled;
         if self.drop_next {
             return Turn::Dropped;
         }
         match kind {
-            TokenKind::LineComment => turn_said(enabled, check_fmt_off(s, start, n)),
-            TokenKind::BlockComment => turn_said(enabled, check_fmt_off(s, start, n)),
-            _ => turn_by(enabled),
+            TokenKind::LineComment | TokenKind::BlockComment => {
+                turn_by(self.enabled, check_fmt_off(s, start, n))
+            }
+            _ => turn_by(self.enabled, None),
         }
     }
 
+    #[tactic(auto, unfolding(crate::specs::Of::switch_of, rules::specs::Switch::switch_after))]
     pub fn after(self, turn: Turn) -> Self
         ensures { switch_of result ≡ switch_after turn (switch_of self) }
     {
-        let enabled = self.enabled;
         match turn {
             Turn::Dropped => Switch {
-                enabled,
                 drop_next: false,
+                ..self
             },
             Turn::Switches(off) => Switch {
                 enabled: !off,
                 drop_next: true,
             },
-            Turn::LaidOut => self,
-            Turn::Copied => self,
+            Turn::LaidOut | Turn::Copied => self,
         }
     }
 }

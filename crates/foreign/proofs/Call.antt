@@ -1,7 +1,9 @@
 -- What the call's verdict says: the definition's numbers are the wish's sentence. Assumes nothing.
+use Rattle.rules.specs.declared.Offence.TheVariants as offence
+use Rattle.rules.specs.declared.Offence.{Offence}
 use mathlib.Core.Path.{◌≡◌, refl, sym, ap, subst, ◌∙◌}
-use mathlib.Core.Bool.{Bool, true, false, not, ◌&&◌, false≢true}
-use mathlib.Core.Option.{Option, none, some}
+use mathlib.Core.Bool.{Bool, true, false, not, false≢true}
+use Rattle.std.specs.Prelude.{Option, None, Some, if◌then◌else◌, Err, Ok, Result}
 use mathlib.Core.List.{List, [], ◌∷◌, ◌++◌, append_assoc, append-nil}
 use Prim.Native.Nat.{ℕ, zero, suc, ◌+◌, ◌≤◌, ◌<◌}
 use native.Mathlib.Omega.{arith}
@@ -11,20 +13,19 @@ use lib.Seq.{take-length}
 use borrow.Author.Tests.{eqb-true, eqb-false, not-true, not-false}
 use Rattle.rules.specs.declared.Case.{Case}
 use Rattle.rules.specs.declared.Counts.{Counts}
-use Rattle.rules.specs.declared.Checked.{Checked}
-use Rattle.rules.specs.declared.Checked.TheVariants as found
 use Rattle.rules.specs.Base.{same, any_of, find}
-use Rattle.std.specs.Prelude.{if◌then◌else◌}
 use Rattle.rules.specs.Tokens.{Token}
 use Rattle.rules.specs.Checks.{checked}
 use Rattle.rules.specs.Sheet.{list_of, token_of, options_of, params_of, keeps_of, QueryParams, Env, env_of, tokens_of}
 use Rattle.rules.specs.Words.{body_at}
 use Rattle.rules.specs.Due.{strip, Piece, role_of, kept_on, switches, kept_by, kept_tokens, Role, blank, comment, placeholder, reserved, other, due_from, due, due_in, due_of}
 use Rattle.checks.proofs.Sound.{sound-sheeted}
+use Rattle.ascii.proofs.RunLaws.{same_true}
 use Rattle.rules.proofs.Keeps.{onto, due_by, due-append, kept_here, next_switch, kept_after, kept_step}
 use Rattle.foreign.specs.declared.Verdict.{Verdict}
+use Rattle.foreign.specs.declared.Refusal.{Refusal}
 use Rattle.foreign.specs.declared.Judged.{Judged}
-use Rattle.foreign.specs.Foreign.{begins, first_from, unless_at, has_first, unless_no, compared, judge_tokens, judge_as, judge, judged_of}
+use Rattle.foreign.specs.Foreign.{begins, first_from, unless_at, has_first, unless_no, compared, judge_tokens, judge_as, judge, number_of, judged_of}
 use Rattle.foreign.proofs.Walk.{begins-on, begins-rest, same-on}
 use Rattle.foreign.specs.Judges.{Begins, kept_first, due_first, LacksAt, NoAt, lacking, exceeding, Judges}
 
@@ -39,17 +40,17 @@ module _ (p : ℕ → Bool) where
     pub none_before : (m : ℕ) → i ≤ m → m < j → p m ≡ false
 
   Finds : ℕ → ℕ → Option ℕ → Type 0
-  Finds i k none = (m : ℕ) → i ≤ m → m < i + k → p m ≡ false
-  Finds i k (some j) = First i k j
+  Finds i k None = (m : ℕ) → i ≤ m → m < i + k → p m ≡ false
+  Finds i k (Some j) = First i k j
 
   finds-next : (i k : ℕ) (o : Option ℕ) → p i ≡ false → Finds (suc i) k o → Finds i (suc k) o
   unfolding Finds
-  finds-next i k none e f = λ m low high. by-eq m low high (eqb m i) refl
+  finds-next i k None e f = λ m low high. by-eq m low high (eqb m i) refl
     where
       by-eq : (m : ℕ) → i ≤ m → m < i + suc k → (b : Bool) → eqb m i ≡ b → p m ≡ false
       by-eq m low high true q = rw (eqb-true m i q) e
       by-eq m low high false q = let n = eqb-false m i q in f m (omega arith) (omega arith)
-  finds-next i k (some j) e f =
+  finds-next i k (Some j) e f =
       let low = f.low in
       let high = f.high in
       record { holds = f.holds; low = omega arith; high = omega arith; none_before = λ m l h. by-eq m l h (eqb m i) refl }
@@ -63,7 +64,7 @@ module _ (p : ℕ → Bool) where
   finds i zero = λ m low high. absurd (omega arith)
   finds i (suc k) = go (p i) refl (finds (suc i) k)
     where
-      go : (b : Bool) → p i ≡ b → Finds (suc i) k (first_from p (suc i) k) → Finds i (suc k) (if b then some i else first_from p (suc i) k)
+      go : (b : Bool) → p i ≡ b → Finds (suc i) k (first_from p (suc i) k) → Finds i (suc k) (if b then Some i else first_from p (suc i) k)
       go true e f = record { holds = e; low = omega arith; high = omega arith; none_before = λ m l h. absurd (omega arith) }
       go false e f = finds-next i k (first_from p (suc i) k) e f
 
@@ -82,9 +83,9 @@ few-role reserved t = is_one _ refl
 few-role other t = is_one _ refl
 
 few-by : (o : Option Bool) (on : Bool) (t : Token) → Few (kept_by o on t)
-few-by (some off) on t = is_none refl
-few-by none true t = few-role (role_of t.kind) t
-few-by none false t = is_one _ refl
+few-by (Some off) on t = is_none refl
+few-by None true t = few-role (role_of t.kind) t
+few-by None false t = is_one _ refl
 
 few-here : (on drop : Bool) (t : Token) → Few (kept_here on drop t)
 few-here on true t = is_none refl
@@ -127,16 +128,6 @@ kept-first on drop (t ∷ ts) (suc i) =
 
 -- ---- beginnings, and what is the same
 
-same_true : (v w : List ℕ) → same v w ≡ true → v ≡ w
-same_true [] [] h = refl
-same_true [] (y ∷ w) h = absurd (false≢true h)
-same_true (x ∷ v) [] h = absurd (false≢true h)
-same_true (x ∷ v) (y ∷ w) h = go (eqb x y) refl h (same_true v w)
-  where
-    go : (b : Bool) → eqb x y ≡ b → (b && same v w) ≡ true → (same v w ≡ true → v ≡ w) → x ∷ v ≡ y ∷ w
-    go true q g ih = rw (eqb-true x y q, ih g)
-    go false q g ih = absurd (false≢true g)
-
 begins-so : (v text : List ℕ) → Begins v text → begins v text ≡ true
 unfolding begins
 begins-so v text b = let e : begins (v ++ []) (v ++ b.rest) ≡ true = begins-on v [] b.rest in rw b.whole (rw (append-nil v) at e)
@@ -152,9 +143,9 @@ not_more v rest y h = let l = length-append v (y ∷ rest) in let e = ap length 
 abbrev Given : ℕ → Type 0
 Given n = any_of (eqb n) (0 ∷ 1 ∷ 2 ∷ 3 ∷ 4 ∷ 5 ∷ 15 ∷ []) ≡ true
 
-judges_refused : (s text : List ℕ) (n p : ℕ) → (n ≡ 0 → ⊥) → Given n → Judges s text (judged_of (Verdict.Refused n p))
+judges_refused : (s text : List ℕ) (r : Refusal) → (number_of r ≡ 0 → ⊥) → Given (number_of r) → Judges s text (judged_of (Err r))
 unfolding judged_of
-judges_refused s text n p k g = record { sound = λ z. absurd (k z); yes_due = λ z. absurd (k z); due_yes = λ z. absurd (k z); no_at = λ z. absurd (k z); given = g; refused = λ z. (refl, refl) }
+judges_refused s text r k g = record { sound = λ z. absurd (k z); yes_due = λ z. absurd (k z); due_yes = λ z. absurd (k z); no_at = λ z. absurd (k z); given = g; refused = λ z. (refl, refl) }
 
 -- ---- the tokens of a sheet
 
@@ -220,10 +211,13 @@ module _ (s : List ℕ) (c : Counts) (text : List ℕ) where
   Says : Verdict → Type 0
   Says Verdict.Yes = strip text ≡ due_all
   Says (Verdict.No i) = NoAt s c text i × (strip text ≡ due_all → ⊥)
-  Says (Verdict.Refused n p) = (n ≡ 0 → ⊥) × Given n
+
+  Told : Result Verdict Refusal → Type 0
+  Told (Ok v) = Says v
+  Told (Err r) = (number_of r ≡ 0 → ⊥) × Given (number_of r)
 
   -- all is there: nothing more, or more
-  all_there : checked s ≡ found.Sound c → Begins due_all (strip text) → (b : Bool) → same due_all (strip text) ≡ b → Says (if b then Verdict.Yes else Verdict.No (length ts))
+  all_there : checked s ≡ Ok c → Begins due_all (strip text) → (b : Bool) → same due_all (strip text) ≡ b → Says (if b then Verdict.Yes else Verdict.No (length ts))
   unfolding Says due_of due_in
   all_there h k true q = sym (same_true _ _ q)
   all_there h k false q = go k.rest k.whole
@@ -232,58 +226,58 @@ module _ (s : List ℕ) (c : Counts) (text : List ℕ) where
       go [] w = absurd (false≢true (sym q ∙ rw w (same-on due_all [])))
       go (y ∷ rest) w = (exceeding (record { past = length-tokens; byte = y; rest = rest; more = rw h w }), λ z. not_more due_all rest y (sym z ∙ w))
 
-  says-compared : checked s ≡ found.Sound c → (o : Option ℕ) → Finds lacks_to 0 (length ts) o → Says (unless_no (params_of s c) (keeps_of s c) (options_of s).casing ts text o)
+  says-compared : checked s ≡ Ok c → (o : Option ℕ) → Finds lacks_to 0 (length ts) o → Says (unless_no (params_of s c) (keeps_of s c) (options_of s).casing ts text o)
   unfolding Says Finds unless_no
-  says-compared h none f = all_there h (rw (take-length ts) at (has-before (length ts) (λ m l k. f m l (omega arith)))) (same due_all (strip text)) refl
-  says-compared h (some i) f =
+  says-compared h None f = all_there h (rw (take-length ts) at (has-before (length ts) (λ m l k. f m l (omega arith)))) (same due_all (strip text)) refl
+  says-compared h (Some i) f =
       let l = lacks-here i f in
       (lacking l, λ z. l.lacks (rw z (due-first (suc i))))
 
-  says-unless : (n : ℕ) (o : Option ℕ) (v : Verdict) → (n ≡ 0 → ⊥) → Given n → Says v → Says (unless_at n o v)
-  unfolding Says unless_at
-  says-unless n none v z g k = k
-  says-unless n (some p) v z g k = (z, g)
+  told-unless : (r : ℕ → Refusal) (o : Option ℕ) (v : Result Verdict Refusal) → ((p : ℕ) → (number_of (r p) ≡ 0 → ⊥) × Given (number_of (r p))) → Told v → Told (unless_at r o v)
+  unfolding Told unless_at
+  told-unless r None v z k = k
+  told-unless r (Some p) v z k = z p
 
-  says-tokens : checked s ≡ found.Sound c → Says (judge_tokens (params_of s c) (keeps_of s c) (options_of s).casing ts text)
-  unfolding judge_tokens compared
-  says-tokens h = says-unless _ _ _ (λ z. omega arith) refl (says-unless _ _ _ (λ z. omega arith) refl (says-compared h _ (finds lacks_to 0 (length ts))))
+  told-tokens : checked s ≡ Ok c → Told (judge_tokens (params_of s c) (keeps_of s c) (options_of s).casing ts text)
+  unfolding Told judge_tokens compared
+  told-tokens h = told-unless _ _ _ (λ p. (λ z. omega arith, refl)) (told-unless _ _ _ (λ p. (λ z. omega arith, refl)) (says-compared h _ (finds lacks_to 0 (length ts))))
 
   -- in numbers
-  due-is : checked s ≡ found.Sound c → due_of s ≡ due_all
+  due-is : checked s ≡ Ok c → due_of s ≡ due_all
   unfolding due_of due_in
   due-is h = rw h
 
-  judges_so : checked s ≡ found.Sound c → (v : Verdict) → Says v → Judges s text (judged_of v)
-  unfolding Says judged_of
-  judges_so h Verdict.Yes k =
+  judges_so : checked s ≡ Ok c → (v : Result Verdict Refusal) → Told v → Judges s text (judged_of v)
+  unfolding Says Told judged_of
+  judges_so h (Ok Verdict.Yes) k =
       record {
-        sound = λ z. h ∙ ap (λ (x : Counts). found.Sound x) (sound-sheeted s c h).counted;
+        sound = λ z. h ∙ ap (λ (x : Counts). Ok x) (sound-sheeted s c h).counted;
         yes_due = λ z m. k ∙ sym (due-is h);
         due_yes = λ z d. refl;
         no_at = λ z n. absurd (n refl);
         given = refl;
         refused = λ z. absurd (z refl);
       }
-  judges_so h (Verdict.No i) k =
+  judges_so h (Ok (Verdict.No i)) k =
       record {
-        sound = λ z. h ∙ ap (λ (x : Counts). found.Sound x) (sound-sheeted s c h).counted;
+        sound = λ z. h ∙ ap (λ (x : Counts). Ok x) (sound-sheeted s c h).counted;
         yes_due = λ z m. absurd (omega arith);
         due_yes = λ z d. absurd (k.1 (d ∙ due-is h));
         no_at = λ z n. subst (λ (x : Counts). NoAt s x text i) (sound-sheeted s c h).counted k.0;
         given = refl;
         refused = λ z. absurd (z refl);
       }
-  judges_so h (Verdict.Refused n p) k = judges_refused s text n p k.0 k.1
+  judges_so h (Err r) k = judges_refused s text r k.0 k.1
 
 -- ---- the call
 
-judges_as : (s text : List ℕ) (f : Checked) → checked s ≡ f → Judges s text (judged_of (judge_as s text f))
+judges_as : (s text : List ℕ) (f : Result Counts Offence) → checked s ≡ f → Judges s text (judged_of (judge_as s text f))
 unfolding judge_as
-judges_as s text (found.Sound c) h = judges_so s c text h _ (says-tokens s c text h)
-judges_as s text found.Size h = judges_refused s text 1 0 (λ z. omega arith) refl
-judges_as s text (found.Word p) h = judges_refused s text 2 p (λ z. omega arith) refl
-judges_as s text (found.Place p) h = judges_refused s text 3 p (λ z. omega arith) refl
-judges_as s text (found.Byte p) h = judges_refused s text 4 p (λ z. omega arith) refl
+judges_as s text (Ok c) h = judges_so s c text h _ (told-tokens s c text h)
+judges_as s text (Err offence.Size) h = judges_refused s text (Refusal.Sheet offence.Size) (λ z. omega arith) refl
+judges_as s text (Err (offence.Word p)) h = judges_refused s text (Refusal.Sheet (offence.Word p)) (λ z. omega arith) refl
+judges_as s text (Err (offence.Place p)) h = judges_refused s text (Refusal.Sheet (offence.Place p)) (λ z. omega arith) refl
+judges_as s text (Err (offence.Byte p)) h = judges_refused s text (Refusal.Sheet (offence.Byte p)) (λ z. omega arith) refl
 
 -- any numbers that the call's equation allows
 pub call_judges : (s text : List ℕ) (r : Judged) → r ≡ judged_of (judge s text) → Judges s text r
@@ -292,7 +286,7 @@ call_judges s text r e = rw e (judges_as s text (checked s) refl)
 
 -- ---- a text that is what is due is a yes
 
-pub due-compared : (s : List ℕ) (c : Counts) (text : List ℕ) → checked s ≡ found.Sound c → strip text ≡ due_all s c text
+pub due-compared : (s : List ℕ) (c : Counts) (text : List ℕ) → checked s ≡ Ok c → strip text ≡ due_all s c text
     → compared (params_of s c) (keeps_of s c) (options_of s).casing (tokens_of s c) text ≡ Verdict.Yes
 unfolding compared unless_no Says
 due-compared s c text h d = go (first_from (lacks_to s c text) 0 (length (tokens_of s c))) (says-compared s c text h _ (finds (lacks_to s c text) 0 (length (tokens_of s c))))
@@ -302,16 +296,16 @@ due-compared s c text h d = go (first_from (lacks_to s c text) 0 (length (tokens
     by-same false k = absurd (k.1 d)
 
     go : (o : Option ℕ) → Says s c text (unless_no (params_of s c) (keeps_of s c) (options_of s).casing (tokens_of s c) text o) → unless_no (params_of s c) (keeps_of s c) (options_of s).casing (tokens_of s c) text o ≡ Verdict.Yes
-    go none k = by-same (same (due_all s c text) (strip text)) k
-    go (some i) k = absurd (k.1 d)
+    go None k = by-same (same (due_all s c text) (strip text)) k
+    go (Some i) k = absurd (k.1 d)
 
 -- ---- only white bytes differ
 
 module _ (ps : QueryParams) (keep : List (List ℕ)) (k : Case) (us : List Token) (v w : List ℕ) (same_bytes : strip v ≡ strip w) where
   unless_same : (o : Option ℕ) → unless_no ps keep k us v o ≡ unless_no ps keep k us w o
   unfolding unless_no
-  unless_same none = rw same_bytes
-  unless_same (some i) = refl
+  unless_same None = rw same_bytes
+  unless_same (Some i) = refl
 
   compared_same : compared ps keep k us v ≡ compared ps keep k us w
   unfolding compared has_first
@@ -322,9 +316,9 @@ pub white-moves : (s v w : List ℕ) → strip v ≡ strip w → find (leb 128) 
 unfolding judge judge_as judge_tokens
 white-moves s v w h f = go (checked s)
   where
-    go : (d : Checked) → judge_as s v d ≡ judge_as s w d
-    go (found.Sound c) = rw (f, compared_same (params_of s c) (keeps_of s c) (options_of s).casing (tokens_of s c) v w h)
-    go found.Size = refl
-    go (found.Word p) = refl
-    go (found.Place p) = refl
-    go (found.Byte p) = refl
+    go : (d : Result Counts Offence) → judge_as s v d ≡ judge_as s w d
+    go (Ok c) = rw (f, compared_same (params_of s c) (keeps_of s c) (options_of s).casing (tokens_of s c) v w h)
+    go (Err offence.Size) = refl
+    go (Err (offence.Word p)) = refl
+    go (Err (offence.Place p)) = refl
+    go (Err (offence.Byte p)) = refl

@@ -1,7 +1,9 @@
 -- Every text that our own layout gives is a yes for its sheet. Assumes nothing.
-use mathlib.Core.Path.{◌≡◌, refl, sym, subst, ◌∙◌}
+use Rattle.rules.specs.declared.Offence.TheVariants as offence
+use Rattle.rules.specs.declared.Offence.{Offence}
+use mathlib.Core.Path.{◌≡◌, refl, sym, ap, subst, ◌∙◌}
 use mathlib.Core.Bool.{Bool, true, false, ◌&&◌, false≢true}
-use mathlib.Core.Option.{Option, none, some}
+use Rattle.std.specs.Prelude.{Option, None, Some, if◌then◌else◌, Err, Ok, Result}
 use mathlib.Core.List.{List, [], ◌∷◌}
 use Prim.Native.Nat.{ℕ, suc, ◌-◌}
 use native.Mathlib.Omega.{arith}
@@ -13,10 +15,7 @@ use Rattle.rules.specs.declared.Turn.{Turn}
 use Rattle.rules.specs.declared.Turn.TheVariants as turn
 use Rattle.rules.specs.declared.Counts.{Counts}
 use Rattle.rules.specs.declared.Report.{Report}
-use Rattle.rules.specs.declared.Checked.{Checked}
-use Rattle.rules.specs.declared.Checked.TheVariants as found
 use Rattle.rules.specs.Base.{when}
-use Rattle.std.specs.Prelude.{if◌then◌else◌}
 use Rattle.rules.specs.Tokens.{Token, Here, is}
 use Rattle.rules.specs.Text.{Text, fits, refused, append, refuse, mark}
 use Rattle.rules.specs.Checks.{checked}
@@ -101,7 +100,7 @@ unfolding unless_refused is_laid
 unless_laid (fits k m b) place rest h = (refl, h)
 unless_laid (refused n) place rest h = absurd (false≢true h)
 
-unbarred-from : (e : Env) (before ts : List Token) (w : Switch) (s : State) (n : ℕ) → is_laid (format_from e before ts w s) ≡ true → barred_from e.params w n ts ≡ none
+unbarred-from : (e : Env) (before ts : List Token) (w : Switch) (s : State) (n : ℕ) → is_laid (format_from e before ts w s) ≡ true → barred_from e.params w n ts ≡ None
 unfolding format_from barred_from taken
 unbarred-from e before [] w s n h = refl
 unbarred-from e before (t ∷ ts) w s n h =
@@ -111,11 +110,11 @@ unbarred-from e before (t ∷ ts) w s n h =
     let k = unless_laid s'.text (length before) (format_from e (t ∷ before) ts (switch_after u w) s') h in
     go s'.text (barred_from e.params (switch_after u w) (suc n) ts) (lays_out u t.kind && offends e.params t.key) (by_turn e here (on_text mark s) u) k.0 (unbarred-from e (t ∷ before) ts (switch_after u w) s' (suc n) k.1)
   where
-    go : (x : Text) (o : Option ℕ) (b : Bool) → (b ≡ true → is_fit x ≡ false) → is_fit x ≡ true → o ≡ none → (if b then some n else o) ≡ none
+    go : (x : Text) (o : Option ℕ) (b : Bool) → (b ≡ true → is_fit x ≡ false) → is_fit x ≡ true → o ≡ None → (if b then Some n else o) ≡ None
     go x o true f k r = absurd (false≢true (sym (f refl) ∙ k))
     go x o false f k r = r
 
-unbarred : (e : Env) (ts : List Token) → is_laid (format e ts) ≡ true → barred_from e.params switched_on 0 ts ≡ none
+unbarred : (e : Env) (ts : List Token) → is_laid (format e ts) ≡ true → barred_from e.params switched_on 0 ts ≡ None
 unfolding format
 unbarred e ts h = unbarred-from e [] ts switched_on start 0 h
 
@@ -129,14 +128,14 @@ unfolding is_laid
 laid-is a b l w e = rw e
 
 -- of a checked sheet
-tokens-yes : (s : List ℕ) (c : Counts) (room : ℕ) (b : List ℕ) (l w : ℕ) → checked s ≡ found.Sound c → format (env_of s c room) (tokens_of s c) ≡ laid b l w
-    → judge_tokens (params_of s c) (keeps_of s c) (options_of s).casing (tokens_of s c) b ≡ Verdict.Yes
+tokens-yes : (s : List ℕ) (c : Counts) (room : ℕ) (b : List ℕ) (l w : ℕ) → checked s ≡ Ok c → format (env_of s c room) (tokens_of s c) ≡ laid b l w
+    → judge_tokens (params_of s c) (keeps_of s c) (options_of s).casing (tokens_of s c) b ≡ Ok Verdict.Yes
 unfolding judge_tokens unless_at env_of
 tokens-yes s c room b l w h e =
     let d = laid-strips _ _ b l w e (keeps (env_of s c room) (tokens_of s c)) in
     let low : Low b = strip-low b (rw (sym d) at (due-low s c (sound-sheeted s c h) room)) in
     let five = unbarred (env_of s c room) (tokens_of s c) (laid-is _ b l w e) in
-    rw (barred-is (env_of s c room) (tokens_of s c), five, low-find 0 b low) (due-compared s c b h d)
+    rw (barred-is (env_of s c room) (tokens_of s c), five, low-find 0 b low) (ap (λ (v : Verdict). Ok v) (due-compared s c b h d))
 
 never : (n p : ℕ) {b : List ℕ} {l w : ℕ} → refusal n p ≡ laid b l w → ⊥
 unfolding is_laid
@@ -148,25 +147,25 @@ not-withdrawn s c room true b l n e = absurd (never 14 28 e)
 not-withdrawn s c room false b l n e = e
 
 -- any sheet, any buffer
-pub laid-yes : (s : List ℕ) (room : ℕ) (b : List ℕ) (l w : ℕ) → answer s room ≡ laid b l w → judge s b ≡ Verdict.Yes
+pub laid-yes : (s : List ℕ) (room : ℕ) (b : List ℕ) (l w : ℕ) → answer s room ≡ laid b l w → judge s b ≡ Ok Verdict.Yes
 unfolding answer answer_as judge judge_as
 laid-yes s room b l w e = go (checked s) refl e
   where
-    go : (f : Checked) → checked s ≡ f → answer_as s room f ≡ laid b l w → judge_as s b f ≡ Verdict.Yes
-    go (found.Sound c) h e = tokens-yes s c room b l w h (not-withdrawn s c room (is_withdrawn s) b l w e)
-    go found.Size h e = absurd (never 1 0 e)
-    go (found.Word p) h e = absurd (never 2 p e)
-    go (found.Place p) h e = absurd (never 3 p e)
-    go (found.Byte p) h e = absurd (never 4 p e)
+    go : (f : Result Counts Offence) → checked s ≡ f → answer_as s room f ≡ laid b l w → judge_as s b f ≡ Ok Verdict.Yes
+    go (Ok c) h e = tokens-yes s c room b l w h (not-withdrawn s c room (is_withdrawn s) b l w e)
+    go (Err offence.Size) h e = absurd (never 1 0 e)
+    go (Err (offence.Word p)) h e = absurd (never 2 p e)
+    go (Err (offence.Place p)) h e = absurd (never 3 p e)
+    go (Err (offence.Byte p)) h e = absurd (never 4 p e)
 
 -- and so any text that the layout call leaves in its buffer, by its own report
-pub call_laid : (s : List ℕ) (room : ℕ) (r : Report) (out : List ℕ) → r ≡ reported s room → out ≡ buffer_after s room → r.refusal ≡ 0 → judge s (take r.length out) ≡ Verdict.Yes
+pub call_laid : (s : List ℕ) (room : ℕ) (r : Report) (out : List ℕ) → r ≡ reported s room → out ≡ buffer_after s room → r.refusal ≡ 0 → judge s (take r.length out) ≡ Ok Verdict.Yes
 unfolding reported buffer_after report_of buffer_of answer due_of
 call_laid s room r out e f z = rw (e, f) (go (answer s room) refl numbered (rw e at z))
   where
     numbered : StripsTo (answer s room) (due_of s)
     numbered = by-checked s room (checked s)
 
-    go : (a : Answer) → answer s room ≡ a → StripsTo a (due_of s) → (report_of a).refusal ≡ 0 → judge s (take (report_of a).length (buffer_of room a)) ≡ Verdict.Yes
+    go : (a : Answer) → answer s room ≡ a → StripsTo a (due_of s) → (report_of a).refusal ≡ 0 → judge s (take (report_of a).length (buffer_of room a)) ≡ Ok Verdict.Yes
     go (laid b l w) h k z = rw (take-append_seam b (replicate (room - length b) 0)) (laid-yes s room b l w h)
     go (refusal n p) h k z = absurd (let q = k.0 in omega arith)

@@ -1,23 +1,23 @@
 -- What is due of a checked sheet has no byte of 128 or more. Assumes nothing.
 use mathlib.Core.Path.{◌≡◌, refl}
-use mathlib.Core.Bool.{Bool, true, false, ◌&&◌, ◌||◌, false≢true}
-use mathlib.Core.Option.{Option, none, some}
+use mathlib.Core.Bool.{Bool, true, false, ◌&&◌}
+use Rattle.std.specs.Prelude.{Option, None, Some, if◌then◌else◌, unwrap_or}
 use mathlib.Core.List.{List, [], ◌∷◌, ◌++◌}
 use Prim.Native.Nat.{ℕ, zero, suc, ◌+◌, ◌-◌, ◌≤◌, ◌<◌}
 use native.Mathlib.Omega.{arith}
 use lib.Dec.{eqb, leb}
 use lib.ListN.{length, drop, get_or}
-use borrow.Author.Tests.{eqb-true, leb-true, lt-leb}
+use borrow.Author.Tests.{lt-leb}
+use Rattle.std.proofs.lemmas.Bool.Decides.{nat_tests}
 use Rattle.rules.specs.declared.Case.{Case}
 use Rattle.rules.specs.declared.Case.TheVariants as case
 use Rattle.rules.specs.declared.Counts.{Counts}
 use Rattle.rules.specs.declared.Place.{Place}
-use Rattle.rules.specs.Base.{same, any_of, find, nth?, or_else}
-use Rattle.std.specs.Prelude.{if◌then◌else◌}
+use Rattle.rules.specs.Base.{same, find, nth?}
 use Rattle.rules.specs.Tokens.{Key, absent, named, zero_indexed, one_indexed, Token}
 use Rattle.rules.specs.Text.{byte_in_case, in_case}
 use Rattle.rules.specs.Words.{word_at, body_at, token_at}
-use Rattle.rules.specs.Sheet.{body_part, list_of, Param, QueryParams, None, Indexed, Named, token_of, value_of, param_of, params_of, Env, env_of, tokens_of}
+use Rattle.rules.specs.Sheet.{body_part, list_of, Param, QueryParams, NoParams, Indexed, Named, token_of, value_of, param_of, params_of, Env, env_of, tokens_of}
 use Rattle.rules.specs.Formatter.{case_for, format_reserved_word}
 use Rattle.rules.specs.Due.{white, strip, Piece, own, cased, filled, Role, blank, comment, placeholder, reserved, other, role_of, kept_on, switches, kept_by, kept_tokens, in_asked_case, one_based, called_by, entry_of, count_next, shows, due_from, due}
 use Rattle.rules.proofs.Own.{word-is}
@@ -34,7 +34,7 @@ abbrev pub Low : List ℕ → Type 0
 Low [] = Unit {0}
 Low (x ∷ v) = (x < 128) × Low v
 
-pub low-find : (n : ℕ) (v : List ℕ) → Low v → find (leb 128) n v ≡ none
+pub low-find : (n : ℕ) (v : List ℕ) → Low v → find (leb 128) n v ≡ None
 low-find n [] h = refl
 low-find n (x ∷ v) h = rw (lt-leb 128 x h.0) (low-find (suc n) v h.1)
 
@@ -45,15 +45,7 @@ low-append (x ∷ v) w h k = (h.0, low-append v w h.1 k)
 -- ---- white bytes
 
 white_low : (x : ℕ) → white x ≡ true → x < 128
-white_low x h = go (9 ∷ 10 ∷ 11 ∷ 12 ∷ 13 ∷ 32 ∷ []) (omega arith, (omega arith, (omega arith, (omega arith, (omega arith, (omega arith, tt)))))) h
-  where
-    step : (y : ℕ) (ys : List ℕ) (b : Bool) → eqb x y ≡ b → y < 128 → (b || any_of (eqb x) ys) ≡ true → (any_of (eqb x) ys ≡ true → x < 128) → x < 128
-    step y ys true e l h ih = let q = eqb-true x y e in omega arith
-    step y ys false e l h ih = ih h
-
-    go : (ys : List ℕ) → Low ys → any_of (eqb x) ys ≡ true → x < 128
-    go [] l h = absurd (false≢true h)
-    go (y ∷ ys) l h = step y ys (eqb x y) refl l.0 h (go ys l.1)
+white_low x h = grind (arith, nat_tests)
 
 low-strip : (v : List ℕ) → Low v → Low (strip v)
 low-strip [] h = tt
@@ -73,19 +65,16 @@ strip-low (x ∷ v) h = go (white x) refl h (strip-low v)
 
 -- ---- letter case
 
+upper-low : (x : ℕ) → x < 128 → (if leb 97 x && leb x 122 then x - 32 else x) < 128
+upper-low x h = grind (arith, nat_tests)
+
+lower-low : (x : ℕ) → x < 128 → (if leb 65 x && leb x 90 then x + 32 else x) < 128
+lower-low x h = grind (arith, nat_tests)
+
 low_byte : (k : Case) (x : ℕ) → x < 128 → byte_in_case k x < 128
 low_byte case.AsIs x h = h
-low_byte case.Upper x h = go (leb 97 x && leb x 122)
-  where
-    go : (b : Bool) → (if b then x - 32 else x) < 128
-    go true = omega arith
-    go false = h
-low_byte case.Lower x h = go (leb 65 x) (leb x 90) refl
-  where
-    go : (a b : Bool) → leb x 90 ≡ b → (if a && b then x + 32 else x) < 128
-    go true true e = let l = leb-true x 90 e in omega arith
-    go true false e = h
-    go false b e = h
+low_byte case.Upper x h = upper-low x h
+low_byte case.Lower x h = lower-low x h
 
 low-case : (k : Case) (v : List ℕ) → Low v → Low (in_case k v)
 low-case k [] h = tt
@@ -102,30 +91,30 @@ LowParams [] = Unit {0}
 LowParams (p ∷ ps) = Low p.value × LowParams ps
 
 abbrev LowList : QueryParams → Type 0
-LowList None = Unit {0}
+LowList NoParams = Unit {0}
 LowList (Indexed vs) = LowValues vs
 LowList (Named ps) = LowParams ps
 
 module _ (v : List ℕ) (l : Low v) where
-  low-nth : (vs : List (List ℕ)) (n : ℕ) → LowValues vs → Low (or_else v (nth? vs n))
+  low-nth : (vs : List (List ℕ)) (n : ℕ) → LowValues vs → Low (unwrap_or (nth? vs n) v)
   low-nth [] n h = l
   low-nth (w ∷ vs) zero h = h.0
   low-nth (w ∷ vs) (suc n) h = low-nth vs n h.1
 
-  low-one : (vs : List (List ℕ)) (n : ℕ) → LowValues vs → Low (or_else v (one_based vs n))
+  low-one : (vs : List (List ℕ)) (n : ℕ) → LowValues vs → Low (unwrap_or (one_based vs n) v)
   low-one vs zero h = l
   low-one vs (suc n) h = low-nth vs n h
 
-  low-called : (n : List ℕ) (ps : List Param) → LowParams ps → Low (or_else v (called_by n ps))
+  low-called : (n : List ℕ) (ps : List Param) → LowParams ps → Low (unwrap_or (called_by n ps) v)
   low-called n [] h = l
   low-called n (p ∷ ps) h = go (same p.name n) (low-called n ps h.1)
     where
-      go : (b : Bool) → Low (or_else v (called_by n ps)) → Low (or_else v (if b then some p.value else called_by n ps))
+      go : (b : Bool) → Low (unwrap_or (called_by n ps) v) → Low (unwrap_or (if b then Some p.value else called_by n ps) v)
       go true k = h.0
       go false k = k
 
-  low-entry : (ps : QueryParams) (key : Key) (i : ℕ) → LowList ps → Low (or_else v (entry_of ps key i))
-  low-entry None key i h = l
+  low-entry : (ps : QueryParams) (key : Key) (i : ℕ) → LowList ps → Low (unwrap_or (entry_of ps key i) v)
+  low-entry NoParams key i h = l
   low-entry (Indexed vs) absent i h = low-nth vs i h
   low-entry (Indexed vs) (named []) i h = low-nth vs i h
   low-entry (Indexed vs) (named (c ∷ n)) i h = l
@@ -157,9 +146,9 @@ module _ (t : Token) (xs : List Piece) (l : Low t.value) (r : LowPieces xs) wher
   low-role other = (l, r)
 
   low_by : (o : Option Bool) (on : Bool) → LowPieces (kept_by o on t ++ xs)
-  low_by (some off) on = r
-  low_by none true = low-role (role_of t.kind)
-  low_by none false = (l, r)
+  low_by (Some off) on = r
+  low_by None true = low-role (role_of t.kind)
+  low_by None false = (l, r)
 
   low-here : (on drop : Bool) → LowPieces (kept_here on drop t ++ xs)
   low-here on true = r
@@ -178,7 +167,7 @@ module _ (e : Env) (ps : LowList e.params) where
   low-due before [] h = tt
   low-due before (own v ∷ xs) h = low-append (strip v) _ (low-strip v h.0) (low-due (own v ∷ before) xs h.1)
   low-due before (cased v ∷ xs) h = low-append (strip (shows e.params e.keep e.options.casing before (cased v))) _ (low-strip (in_asked_case e.keep e.options.casing v) (rw (← word-is e v) (low-case (case_for e v) v h.0))) (low-due (cased v ∷ before) xs h.1)
-  low-due before (filled k v ∷ xs) h = low-append (strip (shows e.params e.keep e.options.casing before (filled k v))) _ (low-strip (or_else v (entry_of e.params k (count_next before))) (low-entry v h.0 e.params k (count_next before) ps)) (low-due (filled k v ∷ before) xs h.1)
+  low-due before (filled k v ∷ xs) h = low-append (strip (shows e.params e.keep e.options.casing before (filled k v))) _ (low-strip (unwrap_or (entry_of e.params k (count_next before)) v) (low-entry v h.0 e.params k (count_next before) ps)) (low-due (filled k v ∷ before) xs h.1)
 
 -- ---- a checked sheet
 
@@ -219,7 +208,7 @@ module _ (s : List ℕ) (c : Counts) (h : Sheeted s c) where
   unfolding params_of
   low-list = go (eqb (word_at s 16) 0) (eqb (word_at s 16) 1)
     where
-      go : (z o : Bool) → LowList (if z then None else if o then Indexed (list_of (value_of s c) 0 c.params) else Named (list_of (param_of s c) 0 c.params))
+      go : (z o : Bool) → LowList (if z then NoParams else if o then Indexed (list_of (value_of s c) 0 c.params) else Named (list_of (param_of s c) 0 c.params))
       go true o = tt
       go false true = low_values 0 c.params (omega arith)
       go false false = low-params 0 c.params (omega arith)

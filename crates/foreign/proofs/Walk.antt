@@ -1,7 +1,7 @@
 -- The walk a token at a time gives the verdict of all tokens. Assumes nothing.
 use mathlib.Core.Path.{◌≡◌, refl, sym, ap, ◌∙◌}
 use mathlib.Core.Bool.{Bool, true, false, not, ◌&&◌, ◌||◌, false≢true, or-false, or_assoc}
-use mathlib.Core.Option.{Option, none, some}
+use Rattle.std.specs.Prelude.{Option, None, Some, if◌then◌else◌, unwrap_or}
 use mathlib.Core.List.{List, [], ◌∷◌, ◌++◌, append_assoc, append-nil}
 use Prim.Native.Nat.{ℕ, suc}
 use native.Mathlib.Omega.{arith}
@@ -12,10 +12,9 @@ use lib.Seq.{take-append_seam}
 use Rattle.rules.specs.declared.TokenKind.{TokenKind}
 use Rattle.rules.specs.declared.TokenKind.TheVariants as kind
 use Rattle.rules.specs.declared.Turn.{Turn}
-use Rattle.rules.specs.Base.{same, any_of, or_else, when}
-use Rattle.std.specs.Prelude.{if◌then◌else◌}
+use Rattle.rules.specs.Base.{same, any_of, when}
 use Rattle.rules.specs.Tokens.{Key, absent, named, zero_indexed, one_indexed, Token, is}
-use Rattle.rules.specs.Sheet.{Env, QueryParams, None, Indexed, Named}
+use Rattle.rules.specs.Sheet.{Env, QueryParams, NoParams, Indexed, Named}
 use Rattle.rules.specs.Params.{get, advances, offends}
 use Rattle.rules.specs.Switch.{Switch, turn_by, turn_of, switched_on}
 use Rattle.rules.specs.Rows.{lays_out}
@@ -54,7 +53,7 @@ begins-rest (x ∷ v) (y ∷ rest) h = go (eqb x y) refl h (begins-rest v rest)
 
 entry-count : (ps : QueryParams) (k : Key) (before : List Piece) → entry_of ps k (counter ps before) ≡ entry_of ps k (count_next before)
 unfolding counter
-entry-count None k before = refl
+entry-count NoParams k before = refl
 entry-count (Named ps) absent before = refl
 entry-count (Named ps) (named n) before = refl
 entry-count (Named ps) (zero_indexed n) before = refl
@@ -71,19 +70,19 @@ advances-is vs (one_indexed n) = refl
 
 filled-counted : (ps : QueryParams) (k : Key) (v : List ℕ) (before : List Piece) → when (advances ps k) suc (counter ps before) ≡ counter ps (filled k v ∷ before)
 unfolding counter count_next advances when
-filled-counted None k v before = refl
+filled-counted NoParams k v before = refl
 filled-counted (Named ps) k v before = refl
 filled-counted (Indexed vs) k v before = rw (advances-is vs k)
 
 own-uncounted : (ps : QueryParams) (v : List ℕ) (before : List Piece) → counter ps before ≡ counter ps (own v ∷ before)
 unfolding counter count_next
-own-uncounted None v before = refl
+own-uncounted NoParams v before = refl
 own-uncounted (Named ps) v before = refl
 own-uncounted (Indexed vs) v before = refl
 
 cased-uncounted : (ps : QueryParams) (v : List ℕ) (before : List Piece) → counter ps before ≡ counter ps (cased v ∷ before)
 unfolding counter count_next
-cased-uncounted None v before = refl
+cased-uncounted NoParams v before = refl
 cased-uncounted (Named ps) v before = refl
 cased-uncounted (Indexed vs) v before = refl
 
@@ -118,7 +117,7 @@ module _ (e : Env) (before : List Piece) (t : Token) where
   unfolding due_from barred
   kept-filled k v =
       record {
-        due_of = rw (append-nil (strip (or_else v (entry_of e.params k (count_next before)))), filled_is e.params k here v, entry-count e.params k before);
+        due_of = rw (append-nil (strip (unwrap_or (entry_of e.params k (count_next before)) v)), filled_is e.params k here v, entry-count e.params k before);
         counted = filled-counted e.params k v before;
         barring = or-false (offends e.params k);
       }
@@ -145,9 +144,9 @@ module _ (e : Env) (before : List Piece) (t : Token) where
 
   by-switch : (on : Bool) (o : Option Bool) → TakenAs (turn_by on o) (kept_by o on t)
   unfolding turn_by shown_as counter_after lays_out when
-  by-switch on (some off) = kept-none
-  by-switch true none = by_kind t.kind
-  by-switch false none = kept-own t.value
+  by-switch on (Some off) = kept-none
+  by-switch true None = by_kind t.kind
+  by-switch false None = kept-own t.value
 
   pub taken-so : (on drop : Bool) → TakenAs (turn_of (record { enabled = on; drop_next = drop }) t.kind t.value) (kept_here on drop t)
   unfolding turn_of shown_as counter_after lays_out when
@@ -201,7 +200,7 @@ module _ (e : Env) (all : List Token) where
     where
       go : (b : Bool) → ((us : List Token) → barred_in e.params (done ++ (t ∷ us)) ≡ (b || any_of (barred e.params) (kept_after (on_with w t) us)))
           → (Unbarred e (done ++ (t ∷ [])) (on_with w t) → first_from barred_to (suc (length done)) (length ts) ≡ barred_from e.params (on_with w t) (suc (length done)) ts)
-          → (if b then some (length done) else first_from barred_to (suc (length done)) (length ts)) ≡ (if b then some (length done) else barred_from e.params (on_with w t) (suc (length done)) ts)
+          → (if b then Some (length done) else first_from barred_to (suc (length done)) (length ts)) ≡ (if b then Some (length done) else barred_from e.params (on_with w t) (suc (length done)) ts)
       go true at-t ih = refl
       go false at-t ih = ih (λ us. rw (append_assoc done (t ∷ []) us) (at-t us))
 
@@ -224,7 +223,7 @@ module _ (e : Env) (all : List Token) (text : List ℕ) where
   abbrev verdict : Option ℕ → Verdict
   verdict o = unless_no e.params e.keep e.options.casing all text o
 
-  verdict-end : (done : List Token) (past : List Piece) (w : Switch) (d rest : List ℕ) → all ≡ done → strip text ≡ d ++ rest → DueOf e done past w d → verdict none ≡ (if same [] rest then Verdict.Yes else Verdict.No (length done))
+  verdict-end : (done : List Token) (past : List Piece) (w : Switch) (d rest : List ℕ) → all ≡ done → strip text ≡ d ++ rest → DueOf e done past w d → verdict None ≡ (if same [] rest then Verdict.Yes else Verdict.No (length done))
   unfolding unless_no kept_tokens due_from
   verdict-end done past w d rest split have is-due =
       let whole : due e.params e.keep e.options.casing done ≡ d = rw (append-nil done, append-nil d) at (is-due []) in
@@ -252,7 +251,7 @@ module _ (e : Env) (all : List Token) (text : List ℕ) where
     where
       go : (v : List ℕ) (onward : List Piece) → ((us : List Token) → due e.params e.keep e.options.casing (done ++ (t ∷ us)) ≡ d ++ (v ++ due_by e onward (kept_after (on_with w t) us))) → (b : Bool) → begins v rest ≡ b
           → (strip text ≡ (d ++ v) ++ drop (length v) rest → DueOf e (done ++ (t ∷ [])) onward (on_with w t) (d ++ v) → verdict (first_from lacks (suc (length done)) (length ts)) ≡ walk e (on_with w t) (counter e.params onward) (suc (length done)) ts (drop (length v) rest))
-          → verdict (if not b then some (length done) else first_from lacks (suc (length done)) (length ts)) ≡ (if b then walk e (on_with w t) (counter e.params onward) (suc (length done)) ts (drop (length v) rest) else Verdict.No (length done))
+          → verdict (if not b then Some (length done) else first_from lacks (suc (length done)) (length ts)) ≡ (if b then walk e (on_with w t) (counter e.params onward) (suc (length done)) ts (drop (length v) rest) else Verdict.No (length done))
       go v onward at-t true h ih = ih (rw (append_assoc d v (drop (length v) rest), ← begins-rest v rest h) have) (λ us. rw (append_assoc done (t ∷ []) us, append_assoc d v (due_by e onward (kept_after (on_with w t) us))) (at-t us))
       go v onward at-t false h ih = refl
 

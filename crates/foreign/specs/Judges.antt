@@ -1,7 +1,6 @@
 -- Wish 13 for its reader: what the call's numbers say of a sheet and a text.
-use Rattle.std.specs.Prelude.{◌≡◌, true, false, List, [], ◌∷◌, ◌++◌, ℕ, suc, ◌<◌, eqb, take}
+use Rattle.std.specs.Prelude.{◌≡◌, true, false, List, [], ◌∷◌, ◌++◌, ℕ, suc, ◌<◌, eqb, take, Ok}
 use Rattle.rules.specs.declared.Counts.{Counts}
-use Rattle.rules.specs.declared.Checked.TheVariants as found
 use Rattle.rules.specs.Base.{any_of}
 use Rattle.rules.specs.Words.{counts_of}
 use Rattle.rules.specs.Checks.{checked}
@@ -44,7 +43,7 @@ module _ (s : List ℕ) (c : Counts) where
 -- the call on sheet s and a text: its numbers
 pub record Judges (s text : List ℕ) (r : Judged) : Type 0 where
   -- where nothing is refused the sheet passes checks 1 to 4
-  pub sound : r.refusal ≡ 0 → checked s ≡ found.Sound (counts_of s)
+  pub sound : r.refusal ≡ 0 → checked s ≡ Ok (counts_of s)
   -- it says yes exactly if the text, white bytes taken out, is what is due
   pub yes_due : r.refusal ≡ 0 → r.matches ≡ 1 → strip text ≡ due_of s
   pub due_yes : r.refusal ≡ 0 → strip text ≡ due_of s → r.matches ≡ 1

@@ -1,31 +1,43 @@
 -- Sheets and texts with the verdict that Wish 13 gives, as one table under one claim.
-use Rattle.std.specs.Prelude.{◌≡◌, refl, false, List, [], ◌∷◌, ◌++◌, map, ℕ}
+use Rattle.std.specs.Prelude.{if◌then◌else◌, ◌≡◌, refl, false, List, [], ◌∷◌, ◌++◌, map, ℕ, eqb, Result, Ok, Err}
 use Prim.Native.String.{String}
 use Rattle.rules.specs.declared.TokenKind.TheVariants as kind
 use Rattle.rules.specs.Bytes.{bytes}
 use Rattle.rules.specs.Tokens.{Key, named, zero_indexed, one_indexed, Token}
-use Rattle.rules.specs.Sheet.{QueryParams, None, Indexed}
+use Rattle.rules.specs.Sheet.{QueryParams, NoParams, Indexed}
 use Rattle.rules.specs.Encode.{encode}
 use Rattle.rules.specs.Computed.{computed}
 use Rattle.rules.specs.Sheets.{tok, W, S, T, P, unset, options, default, lines34, line, sheet6}
 use Rattle.rules.specs.Due.{kept_tokens, in_asked_case, count_next, due_from, due}
+use Rattle.rules.specs.declared.Offence.TheVariants as offence
 use Rattle.foreign.specs.declared.Verdict.{Verdict}
+use Rattle.foreign.specs.declared.Refusal.{Refusal}
 use Rattle.foreign.specs.Foreign.{begins, first_from, barred, unless_at, barred_in, first_barred, has_first, unless_no, compared, judge_tokens, judge_as, judge}
 
 -- a sheet, a text, and what is due
 pub record Judging : Type 0 where
   pub sheet : List ℕ
   pub text : List ℕ
-  pub wanted : Verdict
+  pub wanted : Result Verdict Refusal
 
-abbrev sheet : List ℕ → QueryParams → List (List ℕ) → List Token → String → Verdict → Judging
+abbrev sheet : List ℕ → QueryParams → List (List ℕ) → List Token → String → Result Verdict Refusal → Judging
 sheet op ps keep ts text v = record { sheet = encode op ps keep ts; text = bytes text; wanted = v }
 
-abbrev no : ℕ → Verdict
-no i = Verdict.No i
+abbrev yes : Result Verdict Refusal
+yes = Ok Verdict.Yes
 
-abbrev refused : ℕ → ℕ → Verdict
-refused n p = Verdict.Refused n p
+abbrev no : ℕ → Result Verdict Refusal
+no i = Ok (Verdict.No i)
+
+-- by its number and place
+abbrev refused : ℕ → ℕ → Result Verdict Refusal
+refused n p =
+    if eqb n 1 then Err (Refusal.Sheet offence.Size)
+    else if eqb n 2 then Err (Refusal.Sheet (offence.Word p))
+    else if eqb n 3 then Err (Refusal.Sheet (offence.Place p))
+    else if eqb n 4 then Err (Refusal.Sheet (offence.Byte p))
+    else if eqb n 5 then Err (Refusal.Number p)
+    else Err (Refusal.High p)
 
 abbrev upper : List ℕ
 upper = options 1 50 unset
@@ -42,11 +54,11 @@ list = T "select" ∷ S " " ∷ W "id" ∷ tok kind.Operator "," ∷ W "b" ∷ [
 
 abbrev pub wished : List Judging
 wished =
-    sheet upper None [] list "SEL ECT id , b" Verdict.Yes
-    ∷ sheet upper None [] list "select id, b" (no 0)
-    ∷ sheet upper None [] list "SELECT ID, b" (no 2)
-    ∷ sheet upper None [] list "SELECT id," (no 4)
-    ∷ sheet upper None [] list "SELECT id, b;" (no 5)
+    sheet upper NoParams [] list "SEL ECT id , b" yes
+    ∷ sheet upper NoParams [] list "select id, b" (no 0)
+    ∷ sheet upper NoParams [] list "SELECT ID, b" (no 2)
+    ∷ sheet upper NoParams [] list "SELECT id," (no 4)
+    ∷ sheet upper NoParams [] list "SELECT id, b;" (no 5)
     ∷ sheet default numbers [] (W "a" ∷ keyed (one_indexed (record { 0 = 0 })) ∷ []) "x" (refused 5 1)
     ∷ record { sheet = encode default numbers [] (W "a" ∷ keyed (one_indexed (record { 0 = 0 })) ∷ []); text = 200 ∷ []; wanted = refused 5 1 }
     ∷ []
@@ -57,38 +69,38 @@ off = tok kind.LineComment "-- fmt: off"
 
 abbrev pub kept : List Judging
 kept =
-    sheet default None [] [] "" Verdict.Yes
-    ∷ sheet default None [] [] " \n\t" Verdict.Yes
-    ∷ sheet default None [] [] " a" (no 0)
-    ∷ sheet default None [] (W "a" ∷ W "  " ∷ W "" ∷ []) "a" Verdict.Yes
-    ∷ sheet default None [] (W "a" ∷ W "  " ∷ W "" ∷ W "b" ∷ []) "a" (no 3)
-    ∷ sheet default None [] (S "ab" ∷ W "c" ∷ []) "c" Verdict.Yes
-    ∷ sheet default None [] (off ∷ W "x" ∷ S "ab" ∷ W "c" ∷ []) "abc" Verdict.Yes
-    ∷ sheet default None [] (off ∷ W "x" ∷ S "ab" ∷ W "c" ∷ []) "xabc" (no 2)
-    ∷ sheet default None [] (off ∷ W "x" ∷ S "ab" ∷ W "c" ∷ []) "c" (no 2)
-    ∷ sheet upper None [] (off ∷ W "x" ∷ T "select" ∷ []) "select" Verdict.Yes
-    ∷ sheet upper None [] (off ∷ W "x" ∷ T "select" ∷ []) "SELECT" (no 2)
+    sheet default NoParams [] [] "" yes
+    ∷ sheet default NoParams [] [] " \n\t" yes
+    ∷ sheet default NoParams [] [] " a" (no 0)
+    ∷ sheet default NoParams [] (W "a" ∷ W "  " ∷ W "" ∷ []) "a" yes
+    ∷ sheet default NoParams [] (W "a" ∷ W "  " ∷ W "" ∷ W "b" ∷ []) "a" (no 3)
+    ∷ sheet default NoParams [] (S "ab" ∷ W "c" ∷ []) "c" yes
+    ∷ sheet default NoParams [] (off ∷ W "x" ∷ S "ab" ∷ W "c" ∷ []) "abc" yes
+    ∷ sheet default NoParams [] (off ∷ W "x" ∷ S "ab" ∷ W "c" ∷ []) "xabc" (no 2)
+    ∷ sheet default NoParams [] (off ∷ W "x" ∷ S "ab" ∷ W "c" ∷ []) "c" (no 2)
+    ∷ sheet upper NoParams [] (off ∷ W "x" ∷ T "select" ∷ []) "select" yes
+    ∷ sheet upper NoParams [] (off ∷ W "x" ∷ T "select" ∷ []) "SELECT" (no 2)
     ∷ []
 
 -- ---- letter case and keep words
 abbrev pub letters : List Judging
 letters =
-    sheet upper None (bytes "id" ∷ []) (T "id" ∷ tok kind.Reserved "is  null" ∷ []) "id IS NULL" Verdict.Yes
-    ∷ sheet upper None (bytes "id" ∷ []) (T "id" ∷ tok kind.Reserved "is  null" ∷ []) "ID IS NULL" (no 0)
-    ∷ sheet upper None (bytes "is null" ∷ []) (T "id" ∷ tok kind.Reserved "is  null" ∷ []) "ID is null" (no 1)
-    ∷ sheet (options 2 50 unset) None [] (T "SELECT" ∷ tok kind.Join "JOIN" ∷ []) "selectJOIN" Verdict.Yes
-    ∷ sheet (options 2 50 unset) None [] (T "SELECT" ∷ tok kind.Join "JOIN" ∷ []) "select join" (no 1)
+    sheet upper NoParams (bytes "id" ∷ []) (T "id" ∷ tok kind.Reserved "is  null" ∷ []) "id IS NULL" yes
+    ∷ sheet upper NoParams (bytes "id" ∷ []) (T "id" ∷ tok kind.Reserved "is  null" ∷ []) "ID IS NULL" (no 0)
+    ∷ sheet upper NoParams (bytes "is null" ∷ []) (T "id" ∷ tok kind.Reserved "is  null" ∷ []) "ID is null" (no 1)
+    ∷ sheet (options 2 50 unset) NoParams [] (T "SELECT" ∷ tok kind.Join "JOIN" ∷ []) "selectJOIN" yes
+    ∷ sheet (options 2 50 unset) NoParams [] (T "SELECT" ∷ tok kind.Join "JOIN" ∷ []) "select join" (no 1)
     ∷ []
 
 -- ---- placeholders; the counter stands still for a switched-off one
 abbrev pub parameters : List Judging
 parameters =
-    sheet default numbers [] (P "?" ∷ P "?" ∷ P "?" ∷ []) "712?" Verdict.Yes
-    ∷ sheet default numbers [] (P "?" ∷ keyed (one_indexed (record { 0 = 2 })) ∷ keyed (zero_indexed (record { 0 = 0 })) ∷ keyed (named (bytes "n")) ∷ P "?" ∷ []) "7 12 7 ? 12" Verdict.Yes
+    sheet default numbers [] (P "?" ∷ P "?" ∷ P "?" ∷ []) "712?" yes
+    ∷ sheet default numbers [] (P "?" ∷ keyed (one_indexed (record { 0 = 2 })) ∷ keyed (zero_indexed (record { 0 = 0 })) ∷ keyed (named (bytes "n")) ∷ P "?" ∷ []) "7 12 7 ? 12" yes
     ∷ sheet default numbers [] (P "?" ∷ keyed (one_indexed (record { 0 = 2 })) ∷ keyed (zero_indexed (record { 0 = 0 })) ∷ keyed (named (bytes "n")) ∷ P "?" ∷ []) "7 12 7 ? ?" (no 4)
-    ∷ sheet default numbers [] sheet6 "?x7" Verdict.Yes
+    ∷ sheet default numbers [] sheet6 "?x7" yes
     ∷ sheet default numbers [] sheet6 "?x12" (no 6)
-    ∷ sheet default lines34 [] (line ∷ line ∷ []) "33" Verdict.Yes
+    ∷ sheet default lines34 [] (line ∷ line ∷ []) "33" yes
     ∷ sheet default lines34 [] (line ∷ line ∷ []) "34" (no 1)
     ∷ []
 
@@ -98,25 +110,25 @@ zeroth = keyed (one_indexed (record { 0 = 0 }))
 
 abbrev pub refusals : List Judging
 refusals =
-    sheet default None [] (zeroth ∷ []) "?" Verdict.Yes
-    ∷ sheet default lines34 [] (zeroth ∷ []) "?" Verdict.Yes
-    ∷ sheet default numbers [] (off ∷ zeroth ∷ zeroth ∷ []) "?" Verdict.Yes
+    sheet default NoParams [] (zeroth ∷ []) "?" yes
+    ∷ sheet default lines34 [] (zeroth ∷ []) "?" yes
+    ∷ sheet default numbers [] (off ∷ zeroth ∷ zeroth ∷ []) "?" yes
     ∷ sheet default numbers [] (off ∷ zeroth ∷ zeroth ∷ tok kind.LineComment "-- fmt: on" ∷ zeroth ∷ W "a" ∷ zeroth ∷ []) "?" (refused 5 6)
     ∷ record { sheet = encode default numbers [] (record { kind = kind.Word; value = bytes "?"; key = one_indexed (record { 0 = 0 }); create = false } ∷ []); text = 63 ∷ 127 ∷ 128 ∷ 200 ∷ []; wanted = refused 15 2 }
-    ∷ record { sheet = encode default None [] (W "a" ∷ []); text = 98 ∷ 255 ∷ []; wanted = refused 15 1 }
-    ∷ record { sheet = encode default None [] (W "a" ∷ []) ++ 0 ∷ []; text = 255 ∷ []; wanted = refused 1 0 }
-    ∷ sheet (2 ∷ 3 ∷ 0 ∷ 1 ∷ 50 ∷ unset ∷ unset ∷ []) None [] (W "a" ∷ []) "a" (refused 2 24)
-    ∷ sheet (2 ∷ 0 ∷ 1 ∷ 1 ∷ 50 ∷ unset ∷ unset ∷ []) None [] (W "a" ∷ []) "a" Verdict.Yes
-    ∷ record { sheet = encode default None [] (record { kind = kind.Word; value = 128 ∷ []; key = named []; create = false } ∷ []); text = 128 ∷ []; wanted = refused 4 68 }
+    ∷ record { sheet = encode default NoParams [] (W "a" ∷ []); text = 98 ∷ 255 ∷ []; wanted = refused 15 1 }
+    ∷ record { sheet = encode default NoParams [] (W "a" ∷ []) ++ 0 ∷ []; text = 255 ∷ []; wanted = refused 1 0 }
+    ∷ sheet (2 ∷ 3 ∷ 0 ∷ 1 ∷ 50 ∷ unset ∷ unset ∷ []) NoParams [] (W "a" ∷ []) "a" (refused 2 24)
+    ∷ sheet (2 ∷ 0 ∷ 1 ∷ 1 ∷ 50 ∷ unset ∷ unset ∷ []) NoParams [] (W "a" ∷ []) "a" yes
+    ∷ record { sheet = encode default NoParams [] (record { kind = kind.Word; value = 128 ∷ []; key = named []; create = false } ∷ []); text = 128 ∷ []; wanted = refused 4 68 }
     ∷ []
 
 abbrev pub judgings : List Judging
 judgings = wished ++ kept ++ letters ++ parameters ++ refusals
 
-abbrev given : Judging → Verdict
+abbrev given : Judging → Result Verdict Refusal
 given j = judge j.sheet j.text
 
-abbrev wanted : Judging → Verdict
+abbrev wanted : Judging → Result Verdict Refusal
 wanted j = j.wanted
 
 pub judgings-right : map given judgings ≡ map wanted judgings

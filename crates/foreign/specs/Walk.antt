@@ -1,6 +1,5 @@
 -- The same verdict a token at a time, in the rules' own turns and counter: what the code goes by (`walk_is` of proofs/Walk.antt).
-use Rattle.std.specs.Prelude.{if◌then◌else◌, ◌&&◌, List, [], ◌∷◌, ℕ, suc, length, drop}
-use Rattle.std.proofs.Math.Option.{Option, none, some}
+use Rattle.std.specs.Prelude.{if◌then◌else◌, ◌&&◌, List, [], ◌∷◌, ℕ, suc, length, drop, Option, None, Some}
 use Rattle.rules.specs.declared.Turn.{Turn}
 use Rattle.rules.specs.declared.Turn.TheVariants as turn
 use Rattle.rules.specs.Base.{same}
@@ -17,10 +16,10 @@ use Rattle.foreign.specs.Foreign.{begins}
 
 -- refusal 5 from token i on
 unfoldable pub barred_from : QueryParams → Switch → ℕ → List Token → Option ℕ
-barred_from ps w i [] = none
+barred_from ps w i [] = None
 barred_from ps w i (t ∷ ts) =
     let turn = turn_of w t.kind t.value in
-    if lays_out turn t.kind && offends ps t.key then some i
+    if lays_out turn t.kind && offends ps t.key then Some i
     else barred_from ps (switch_after turn w) (suc i) ts
 
 module _ (e : Env) where

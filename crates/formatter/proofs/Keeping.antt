@@ -1,7 +1,7 @@
 -- The rows of the run: those in the list are those of the tokens before, and with what is left they are all. Assumes nothing.
 use mathlib.Core.Path.{◌≡◌, refl, sym, ap, ◌∙◌}
 use mathlib.Core.Bool.{Bool, true, false, ◌&&◌}
-use mathlib.Core.Option.{Option, some}
+use Rattle.std.specs.Prelude.{Option, Some, if◌then◌else◌}
 use mathlib.Core.List.{List, [], ◌∷◌, ◌++◌, map}
 use Prim.Native.Nat.{ℕ, suc, ◌+◌, ◌-◌, ◌*◌, ◌≤◌, ◌<◌, min}
 use native.Mathlib.Omega.{arith}
@@ -14,7 +14,6 @@ use Rattle.rules.specs.declared.TokenKind.TheVariants as kind
 use Rattle.rules.specs.declared.Turn.{Turn}
 use Rattle.rules.specs.declared.Turn.TheVariants as turn
 use Rattle.rules.specs.Base.{◌▹◌, when}
-use Rattle.std.specs.Prelude.{if◌then◌else◌}
 use Rattle.rules.specs.Text.{Text, fits, trimmed, refused, append, refuse, mark, low_of, bytes_in}
 use Rattle.rules.specs.Tokens.{Token, Here, is}
 use Rattle.rules.specs.Sheet.{Env, token_of, tokens_of, here_at}
@@ -145,7 +144,7 @@ step-level t e h s q =
     let p = laid-placeholder t h.token.kind q in
     rw p.0 (rw p.1 (level-placeholder e h.token (on_text mark s)))
 
-by-fields : (n w m l : ℕ) (r : Row) → n ≡ r.token → w ≡ entry_word r.entry → ((k : ℕ) → r.entry ≡ some k → k < 4294967295) → m ≡ r.start → l ≡ r.len → row_of n w m l ≡ r
+by-fields : (n w m l : ℕ) (r : Row) → n ≡ r.token → w ≡ entry_word r.entry → ((k : ℕ) → r.entry ≡ Some k → k < 4294967295) → m ≡ r.start → l ≡ r.len → row_of n w m l ≡ r
 unfolding row_of
 by-fields n w m l r a b f c d = rw (a, b, entry-back r.entry f, c, d)
 

@@ -25,7 +25,6 @@ use fmt_switch::Switch;
 use indentation::Indentation;
 use inline_block::InlineBlock;
 use rules::{BlockInfo, Report, SpanInfo, TokenKind, Turn};
-use stacks::both;
 use state::{Context, State, value_of};
 use switched::lays_out;
 use text::Text;
@@ -276,7 +275,7 @@ pub fn format(
                 width: 0,
             };
         }
-        let kept = both(with_rows, lays_out(turn, kind));
+        let kept = with_rows & lays_out(turn, kind);
         count = rows::after(rows, count, t.low, kept, i as u32, entry, t.low, shown);
         i += 1;
     }

@@ -1,18 +1,17 @@
 -- Zeroes with a head's bytes set are the head.
-use mathlib.Core.Path.{◌≡◌, ap, sym, ◌∙◌}
-use mathlib.Core.List.{List, ◌++◌}
-use Prim.Native.Nat.{ℕ, ◌+◌, ◌-◌, ◌/◌, ◌%◌, ◌≤◌}
-use native.Mathlib.Omega.{arith}
+use Rattle.std.proofs.Common.{◌≡◌, ℕ, ◌+◌, ◌-◌, ◌≤◌, List, arith, ap, sym, ◌∙◌}
+use borrow.Author.Tests.{le-leb}
+use borrow.Rule.Slice.PartMut.{put_mid}
 use lib.ListN.{set, replicate, replicate-append-replicate}
-use Rattle.head.specs.Head.{head_with}
+use Rattle.rules.specs.Words.{word_bytes}
+use Rattle.head.specs.Head.{head_with, head_written}
 
 -- the stores of the code, in its order
-abbrev pub stored : ℕ → List ℕ → List ℕ
-stored top l =
-    set (set (set (set (set (set (set (set (set (set (set l 20 2) 32 1) 36 50) 40 255) 41 255) 42 255) 43 255) 44 (top % 256)) 45 (top / 256 % 256)) 46 (top / 65536 % 256)) 47 (top / 16777216 % 256)
+abbrev stored : List ℕ → List ℕ → List ℕ → List ℕ
+stored l p q = put_mid 44 4 (put_mid 40 4 (set (set (set l 20 2) 32 1) 36 50) p) q
 
-pub stored-head : (top n : ℕ) → 48 ≤ n → stored top (replicate n 0) ≡ head_with top ++ replicate (n - 48) 0
+pub stored-head : (top n : ℕ) → 48 ≤ n → (l p q : List ℕ) → l ≡ replicate n 0 → p ≡ word_bytes 4294967295 → q ≡ word_bytes top → stored l p q ≡ head_written (head_with top) n
 unfolding head_with
-stored-head top n h =
+stored-head top n h l p q el ep eq =
     let e : n ≡ 48 + (n - 48) = omega arith in
-    ap (stored top) (ap (λ (k : ℕ). replicate k 0) e ∙ sym (replicate-append-replicate 48 (n - 48) 0))
+    rw (el, ep, eq, le-leb 48 n h) (ap (λ (k : ℕ). stored (replicate k 0) (word_bytes 4294967295) (word_bytes top)) e ∙ ap (λ l'. stored l' (word_bytes 4294967295) (word_bytes top)) (sym (replicate-append-replicate 48 (n - 48) 0)))

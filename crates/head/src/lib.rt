@@ -1,39 +1,23 @@
 // Two heads: the default one, and the Rust's.
 #![tactic(auto)]
 
-ghost use Rattle.std.specs.Prelude.{◌≡◌, length, replicate};
+ghost use Rattle.std.specs.Prelude.{◌≡◌, length};
 ghost use Rattle.head.specs.Head.{head_with, default_head, rust_head, head_written, head_returned};
-
-fn clear(out: &mut [u8])
-    ensures { out.new ≡ replicate (length out.old) 0 }
-{
-    let mut i = 0;
-    while i < out.len() {
-        out[i] = 0;
-        i += 1;
-    }
-}
 
 // What the heads share: all but word 11. Only the bytes that are not zero in both are stored after the clearing.
 fn head_with(out: &mut [u8], top_level: u32) -> usize
     ensures value { result ≡ head_returned (length out.old) }
     ensures out_after { out.new ≡ head_written (head_with top_level) (length out.old) }
 {
-    clear(out);
+    out.fill(0);
     if out.len() < 48 {
         return 0;
     }
     out[20] = 2;
     out[32] = 1;
     out[36] = 50;
-    out[40] = 255;
-    out[41] = 255;
-    out[42] = 255;
-    out[43] = 255;
-    out[44] = (top_level % 256) as u8;
-    out[45] = (top_level / 256 % 256) as u8;
-    out[46] = (top_level / 65536 % 256) as u8;
-    out[47] = (top_level / 16777216 % 256) as u8;
+    out[40..44].copy_from_slice(&u32::MAX.to_le_bytes());
+    out[44..48].copy_from_slice(&top_level.to_le_bytes());
     48
 }
 
@@ -50,5 +34,5 @@ pub fn rust_head(out: &mut [u8]) -> usize
     ensures value { result ≡ head_returned (length out.old) }
     ensures out_after { out.new ≡ head_written rust_head (length out.old) }
 {
-    head_with(out, 4294967295)
+    head_with(out, u32::MAX)
 }

@@ -3,26 +3,30 @@ use mathlib.Core.Path.{◌≡◌, refl, sym, ap, ◌∙◌}
 use mathlib.Core.Bool.{Bool, true, false, ◌&&◌, not}
 use mathlib.Core.Logic.{⊎_elim}
 use mathlib.Core.List.{List, [], ◌∷◌, map, tail}
-use Prim.Native.Nat.{ℕ, zero, suc, ◌+◌, ◌-◌, ◌≤◌, ◌<◌}
+use Prim.Native.Nat.{ℕ, zero, suc, ◌+◌, ◌-◌, ◌*◌, ◌≤◌, ◌<◌}
 use native.Mathlib.Omega.{arith}
-use mathlib.Core.Option.{Option, none, some}
-use native.Mathlib.Nat.{sub-zero}
+use Rattle.std.specs.Prelude.{Option, None, Some, if◌then◌else◌, min, slice_get, unwrap_or}
+use Rattle.std.specs.Option.{SomeIff}
+use Rattle.std.specs.Int.{from_bool}
+use Rattle.std.proofs.Math.Nat.{min-eq_left}
+use Rattle.std.proofs.lemmas.Bool.{cases_eq, and_parts}
+use Rattle.indentation.specs.declared.TheConstants.{TOP, BLOCK, FOLDED_BLOCK}
+use native.Mathlib.Nat.{add-zero, sub-zero}
 use native.Mathlib.Numerals.{add-one}
 use lib.Dec.{eqb, leb, ltb}
-use lib.ListN.{length, get_or, set, replicate, length-map}
+use lib.ListN.{length, get_or, set, replicate, take, length-map}
 use lib.Seq.{get_or-set_same, set-get_or}
-use borrow.Author.Tests.{le-leb, lt-leb, ne_eqb, eqb-true, ltb-true, ltb-false, lt-ltb, leb-false}
+use borrow.Author.Tests.{eq-eqb, le-leb, lt-leb, ne_eqb, eqb-true, ltb-true, ltb-false, lt-ltb, leb-false}
 use Rattle.rules.specs.declared.IndentType.{IndentType}
 use Rattle.rules.specs.declared.IndentType.TheVariants.{Top, Block, FoldedBlock}
 use Rattle.rules.specs.declared.SpanInfo.{SpanInfo}
 use Rattle.rules.specs.Base.{when, full}
-use Rattle.std.specs.Prelude.{if◌then◌else◌}
 use Rattle.rules.specs.Indentation.{Indentation, PreviousTokens, no_indentation, is_single, asked, mark_reserved, mark_top_level, increase_top_level, increase_block_level, decrease_top_level, pop_top, decrease_block_level, pop_block, set_previous_reserved, set_previous_top_level, last_top_level, last_reserved, previous_reserved, previous_top_level_reserved, unfolded, indent_level, span, no_previous as none_before}
-use Rattle.stacks.specs.Stack.{stack, Kept, within_of}
-use Rattle.stacks.proofs.StackLaws.{length-stack, stack_push, stack-put, stack-pop, stack-popped, kept_push, kept_put, kept-pop, every_set, kept-none, every-same, same_or, left-of, right_of, unless_both, tail_map}
+use Rattle.stacks.specs.Stack.{stack, Kept}
+use Rattle.stacks.proofs.StackLaws.{length-stack, top_is, stack_push, stack-put, stack-pop, stack-popped, kept_push, kept_put, kept-pop, every_set, kept-none, every-same, unless_both, tail_map}
 use Rattle.indentation.specs.declared.Indentation.{Indentation as Code}
 use Rattle.indentation.specs.declared.Previous.{Previous}
-use Rattle.indentation.specs.Of.{reserved_after, top_level_after, top_in, type_of, kind_for, word_of, marks_of, top_span, top_of, previous_of, entry, no_previous, entry_for, types_of, indentation_of, last_of, tops, ends_top, Told, Clean, Stands, StandsClosed}
+use Rattle.indentation.specs.Of.{reserved_after, top_level_after, type_of, kind_for, word_of, marks_of, top_span, top_of, previous_of, entry, no_previous, entry_for, types_of, indentation_of, last_of, tops, ends_top, Told, Clean, Stands, StandsClosed}
 
 tops_within : (ts : List IndentType) → tops ts ≤ length ts
 unfolding tops
@@ -43,77 +47,53 @@ spans-room i c h =
     let l = types_length i in
     omega arith
 
-false_true : {A : Type 0} → false ≡ true → A
-false_true e = absurd (let z : ◌≡◌ {A = ℕ} 0 1 = cc in omega arith)
+-- ---- numbers
 
--- ---- choices of numbers
-
-pub by_first : (n w t : ℕ) → n ≡ 0 → t + 1 ≡ (if eqb n 0 then t + 1 else w)
-by_first n w t z = rw z
-
-pub by-later : (n w t : ℕ) → (n ≡ 0 → ⊥) → w ≡ (if eqb n 0 then t + 1 else w)
-by-later n w t z = rw (ne_eqb n 0 z)
-
-pub by-no-kind : (n k : ℕ) → n ≡ 0 → false ≡ top_in n k
-unfolding top_in
-by-no-kind n k z = rw z
-
-pub by_kind : (n k : ℕ) → (n ≡ 0 → ⊥) → eqb k 0 ≡ top_in n k
-unfolding top_in
-by_kind zero k z = absurd (z refl)
-by_kind (suc n) k z = refl
-
-pub by_token : (w : ℕ) → (w ≡ 0 → ⊥) → some (w - 1) ≡ word_of w
+pub by_token : (r : Option ℕ) (w : ℕ) → SomeIff r (1 ≤ w) (w - 1) → r ≡ word_of w
 unfolding word_of
-by_token zero z = absurd (z refl)
-by_token (suc n) z = let e : suc n - 1 ≡ n = omega arith in rw e
+by_token None zero h = refl
+by_token None (suc n) h = absurd (h (omega arith))
+by_token (Some m) zero h = absurd (omega (arith, h.0))
+by_token (Some m) (suc n) h = let e : m ≡ n = omega (arith, h.1) in ap Some e
 
-pub by-many-blocks : (sp : SpanInfo) → 2 < sp.blocks → false ≡ is_single sp
+pub by_marks : (single after : Bool) → 1 + from_bool single + 2 * from_bool after ≡ marks_of single after
+unfolding marks_of
+by_marks false false = refl
+by_marks false true = refl
+by_marks true false = refl
+by_marks true true = refl
+
+pub by_single : (sp : SpanInfo) → sp.blocks ≤ 2 → eqb sp.arguments 1 ≡ is_single sp
 unfolding is_single
-by-many-blocks sp h = rw (lt-leb _ _ h)
+by_single sp h = rw (le-leb _ _ h)
 
-pub by-few-blocks : (sp : SpanInfo) → sp.blocks ≤ 2 → eqb sp.arguments 1 ≡ is_single sp
-unfolding is_single
-by-few-blocks sp h = rw (le-leb _ _ h)
-
-pub by-untold : (m : ℕ) (sp : SpanInfo) → m ≡ 0 → none ≡ top_of m sp
+pub by_told : (m : ℕ) (sp : SpanInfo) → (m ≡ 0 → ⊥) → Some sp ≡ top_of m sp
 unfolding top_of
-by-untold m sp z = rw z
-
-pub by-told : (m : ℕ) (sp : SpanInfo) → (m ≡ 0 → ⊥) → some sp ≡ top_of m sp
-unfolding top_of
-by-told zero sp z = absurd (z refl)
-by-told (suc m) sp z = refl
+by_told zero sp z = absurd (z refl)
+by_told (suc m) sp z = refl
 
 -- ---- a top-level entry on a list of entries
 
 top-stays : (ts : List IndentType) → ends_top ts ≡ false → (d : Indentation ℕ) → pop_top ts d ≡ d
 unfolding pop_top ends_top
 top-stays [] e d = refl
-top-stays (Top ∷ ts) e d = false_true (sym e)
+top-stays (Top ∷ ts) e d = cc
 top-stays (Block ∷ ts) e d = refl
 top-stays (FoldedBlock ∷ ts) e d = refl
 
 top-pops : (ts : List IndentType) → ends_top ts ≡ true → (d : Indentation ℕ) → pop_top ts d ≡ record { indent_types = tail ts; top_level_span = tail d.top_level_span; previous = tail d.previous }
 unfolding pop_top ends_top
-top-pops [] e d = false_true e
+top-pops [] e d = cc
 top-pops (Top ∷ ts) e d = refl
-top-pops (Block ∷ ts) e d = false_true e
-top-pops (FoldedBlock ∷ ts) e d = false_true e
+top-pops (Block ∷ ts) e d = cc
+top-pops (FoldedBlock ∷ ts) e d = cc
 
 top-counts : (ts : List IndentType) → ends_top ts ≡ true → tops ts ≡ suc (tops (tail ts))
 unfolding tops ends_top
-top-counts [] e = false_true e
+top-counts [] e = cc
 top-counts (Top ∷ ts) e = refl
-top-counts (Block ∷ ts) e = false_true e
-top-counts (FoldedBlock ∷ ts) e = false_true e
-
-top-length : (ts : List IndentType) → ends_top ts ≡ true → length (tail ts) < length ts
-unfolding ends_top
-top-length [] e = false_true e
-top-length (Top ∷ ts) e = omega arith
-top-length (Block ∷ ts) e = false_true e
-top-length (FoldedBlock ∷ ts) e = false_true e
+top-counts (Block ∷ ts) e = cc
+top-counts (FoldedBlock ∷ ts) e = cc
 
 -- ---- the kind of a block
 
@@ -137,7 +117,7 @@ no_top false ts = refl
 block_pops : (k : ℕ) (ts : List IndentType) (sp : List ℕ) (pr : List (PreviousTokens ℕ)) → k ≤ 2 → ends_top (type_of k ∷ ts) ≡ false
     → pop_block (type_of k ∷ ts) sp pr ≡ record { folded = eqb k 2; left = record { indent_types = ts; top_level_span = sp; previous = tail pr } }
 unfolding type_of ends_top pop_block
-block_pops zero ts sp pr h e = false_true (sym e)
+block_pops zero ts sp pr h e = cc
 block_pops (suc zero) ts sp pr h e = refl
 block_pops (suc (suc zero)) ts sp pr h e = refl
 block_pops (suc (suc (suc k))) ts sp pr h e = absurd (omega arith)
@@ -145,7 +125,7 @@ block_pops (suc (suc (suc k))) ts sp pr h e = absurd (omega arith)
 block_counts : (ts : List IndentType) → ends_top ts ≡ false → tops ts ≡ tops (tail ts)
 unfolding tops ends_top
 block_counts [] e = refl
-block_counts (Top ∷ ts) e = false_true (sym e)
+block_counts (Top ∷ ts) e = cc
 block_counts (Block ∷ ts) e = refl
 block_counts (FoldedBlock ∷ ts) e = refl
 
@@ -155,21 +135,21 @@ unfolding decrease_block_level decrease_top_level pop_block pop_top ends_top
 top-skips d h = go d.indent_types h
   where
     go : (ts : List IndentType) → ends_top ts ≡ true → pop_block (pop_top ts d).indent_types (pop_top ts d).top_level_span (pop_top ts d).previous ≡ pop_block ts d.top_level_span d.previous
-    go [] e = false_true e
+    go [] e = cc
     go (Top ∷ ts) e = refl
-    go (Block ∷ ts) e = false_true e
-    go (FoldedBlock ∷ ts) e = false_true e
+    go (Block ∷ ts) e = cc
+    go (FoldedBlock ∷ ts) e = cc
 
 -- ---- previous words
 
 -- what is asked of the span that was put there
-span-back : (w : ℕ) (sp : SpanInfo) → top_of (top_level_after w sp).marks (top_span (top_level_after w sp)) ≡ some (asked sp)
+span-back : (w : ℕ) (sp : SpanInfo) → top_of (top_level_after w sp).marks (top_span (top_level_after w sp)) ≡ Some (asked sp)
 unfolding marks_of top_of asked
 span-back w sp = go (is_single sp) sp.newline_after
   where
     go : (b d : Bool)
         → top_of (marks_of b d) (top_span (entry sp.full_span w (marks_of b d)))
-        ≡ some (record { full_span = sp.full_span; blocks = 0; newline_before = false; newline_after = d; arguments = (if b then 1 else 0) })
+        ≡ Some (record { full_span = sp.full_span; blocks = 0; newline_before = false; newline_after = d; arguments = (if b then 1 else 0) })
     go false false = refl
     go true false = refl
     go false true = refl
@@ -196,14 +176,14 @@ unfolding entry_for
 told-reserved p t h = ap (λ (q : Previous). reserved_after q t) h ∙ go (top_of p.marks (top_span p))
   where
     go : (v : Option SpanInfo) → reserved_after (entry_for v p.word) t ≡ entry_for v (t + 1)
-    go none = refl
-    go (some sp) = refl
+    go None = refl
+    go (Some sp) = refl
 
-after-reserved : (p : Previous) (t : ℕ) → previous_of (reserved_after p t) ≡ record { top_level_reserved = (previous_of p).top_level_reserved; reserved = some t }
+after-reserved : (p : Previous) (t : ℕ) → previous_of (reserved_after p t) ≡ record { top_level_reserved = (previous_of p).top_level_reserved; reserved = Some t }
 unfolding previous_of word_of
 after-reserved p t = rw add-one
 
-after-top-level : (w : ℕ) (sp : SpanInfo) → previous_of (top_level_after w sp) ≡ record { top_level_reserved = some (asked sp); reserved = word_of w }
+after-top-level : (w : ℕ) (sp : SpanInfo) → previous_of (top_level_after w sp) ≡ record { top_level_reserved = Some (asked sp); reserved = word_of w }
 unfolding previous_of
 after-top-level w sp = rw (span-back w sp)
 
@@ -240,8 +220,8 @@ level-within i c =
     let k = c.kinds.within in
     omega arith
 
-pub by-room : (i : Code) → Clean i → i.level ≤ 129
-by-room i c = let h = level-within i c in omega arith
+pub by_room : (i : Code) → Clean i → i.level ≤ 129
+by_room i c = let h = level-within i c in omega arith
 
 -- a block counts unless it is folded
 block_level : (folded : Bool) (n : ℕ) (ts : List IndentType) → n ≡ unfolded ts → (if eqb (kind_for folded) 1 then n + 1 else n) ≡ unfolded (type_of (kind_for folded) ∷ ts)
@@ -251,14 +231,14 @@ block_level false n ts e = omega arith
 
 top-level : (ts : List IndentType) → ends_top ts ≡ true → unfolded ts - 1 ≡ unfolded (tail ts)
 unfolding unfolded ends_top
-top-level [] e = false_true e
+top-level [] e = cc
 top-level (Top ∷ ts) e = omega arith
-top-level (Block ∷ ts) e = false_true e
-top-level (FoldedBlock ∷ ts) e = false_true e
+top-level (Block ∷ ts) e = cc
+top-level (FoldedBlock ∷ ts) e = cc
 
 left-level : (k n : ℕ) (ts : List IndentType) → k ≤ 2 → ends_top (type_of k ∷ ts) ≡ false → n ≡ unfolded (type_of k ∷ ts) → (if eqb k 1 then n - 1 else n) ≡ unfolded ts
 unfolding type_of ends_top unfolded
-left-level zero n ts h e f = false_true (sym e)
+left-level zero n ts h e f = cc
 left-level (suc zero) n ts h e f = omega arith
 left-level (suc (suc zero)) n ts h e f = f
 left-level (suc (suc (suc k))) n ts h e f = absurd (omega arith)
@@ -319,7 +299,7 @@ module _ (i : Code) (c : Clean i) where
 
   block_pushed : (folded : Bool) (k : ℕ) → k ≡ kind_for folded → i.nkinds < 128
       → Stands (increase_block_level folded (indentation_of i))
-      (record { kinds = set i.kinds i.nkinds k; nkinds = i.nkinds + 1; spans = i.spans; nspans = i.nspans; previous = set i.previous i.nprevious no_previous; nprevious = i.nprevious + 1; level = (if eqb k 1 then i.level + 1 else i.level) })
+      (record { kinds = set i.kinds i.nkinds k; nkinds = i.nkinds + 1; spans = i.spans; nspans = i.nspans; previous = set i.previous i.nprevious no_previous; nprevious = i.nprevious + 1; level = (if eqb k BLOCK then i.level + 1 else i.level) })
   unfolding increase_block_level indentation_of types_of previous_of none_before word_of top_of
   block_pushed folded k q h =
       let l = c.kinds.long in
@@ -350,34 +330,46 @@ module _ (i : Code) (c : Clean i) where
   previous-above : set i.previous i.nprevious no_previous ≡ i.previous
   previous-above = ap (set i.previous i.nprevious) (sym (c.previous.above i.nprevious (omega arith))) ∙ set-get_or i.previous i.nprevious no_previous
 
+  counted-so : (f : Bool) (n : ℕ) → (if f then n + 1 else n) ≡ n + from_bool f
+  counted-so true n = refl
+  counted-so false n = sym (add-zero n)
+
+  fewer-so : (f : Bool) (n : ℕ) → (if f then n - 1 else n) ≡ n - from_bool f
+  fewer-so true n = refl
+  fewer-so false n = sym (sub-zero n)
+
   stays : Stands (indentation_of i) i
   stays = record { is = refl; clean = c }
 
-  pub by-top-if : (b g : Bool) (sp : SpanInfo) (at v n m l : ℕ) → g ≡ (b && ltb i.nkinds 128) → at ≡ within_of i.nspans → v ≡ (if g then sp.full_span else get_or i.spans at 0) → n ≡ (if g then i.nspans + 1 else i.nspans) → m ≡ (if g then i.nkinds + 1 else i.nkinds) → l ≡ (if g then i.level + 1 else i.level)
+  pub top_if : (b g : Bool) (sp : SpanInfo) (at v u : ℕ) → g ≡ (b && ltb i.nkinds 128) → at ≡ min i.nspans 127 → v ≡ (if g then sp.full_span else get_or i.spans at 0) → u ≡ from_bool g
       → Stands (when b (increase_top_level sp) (indentation_of i))
-      (record { kinds = i.kinds; nkinds = m; spans = set i.spans at v; nspans = n; previous = i.previous; nprevious = i.nprevious; level = l })
+      (record { kinds = i.kinds; nkinds = i.nkinds + u; spans = set i.spans at v; nspans = i.nspans + u; previous = i.previous; nprevious = i.nprevious; level = i.level + u })
   unfolding when
-  by-top-if b true sp at v n m l eg ea ev en em el =
-      let h = ltb-true _ _ (right_of b _ (sym eg)) in
-      let r = lt-ltb _ _ (spans-room i c h) in
-      rw (left-of b _ (sym eg), ea, r, ev, en, em, el) (rw kinds-above at (by-top sp h))
-  by-top-if b false sp at v n m l eg ea ev en em el =
+  top_if b true sp at v u eg ea ev eu =
+      let t = and_parts b _ (sym eg) in
+      let h = ltb-true _ _ t.1 in
+      let r = spans-room i c h in
+      let a : at ≡ i.nspans = ea ∙ min-eq_left (omega arith) in
+      rw (t.0, a, ev, eu) (rw kinds-above at (by-top sp h))
+  top_if b false sp at v u eg ea ev eu =
       let f = unless_both b (ltb i.nkinds 128) (increase_top_level sp) (indentation_of i) (sym eg) (λ q. sym (by-top-full sp (ltb-false _ _ q)).is) in
-      rw (f, ev, en, em, el, set-get_or i.spans at 0) stays
+      rw (f, ev, eu, set-get_or i.spans at 0) (simp add-zero stays)
 
-  pub by-block-if : (folded g f : Bool) (at k v n m l : ℕ) → g ≡ ltb i.nkinds 128 → at ≡ within_of i.nkinds → k ≡ kind_for folded → v ≡ (if g then k else get_or i.kinds at 0) → n ≡ (if g then i.nkinds + 1 else i.nkinds) → m ≡ (if g then i.nprevious + 1 else i.nprevious) → f ≡ (g && eqb k 1) → l ≡ (if f then i.level + 1 else i.level)
+  pub block_if : (folded g f : Bool) (at k v u t : ℕ) → g ≡ ltb i.nkinds 128 → at ≡ min i.nkinds 127 → k ≡ kind_for folded → v ≡ (if g then k else get_or i.kinds at 0) → u ≡ from_bool g → f ≡ (g && eqb k BLOCK) → t ≡ from_bool f
       → Stands (increase_block_level folded (indentation_of i))
-      (record { kinds = set i.kinds at v; nkinds = n; spans = i.spans; nspans = i.nspans; previous = i.previous; nprevious = m; level = l })
-  by-block-if folded true f at k v n m l eg ea ek ev en em ef el =
-      rw (ea, ← eg, ev, en, em, el, ef) (rw previous-above at (block_pushed folded k ek (ltb-true _ _ (sym eg))))
-  by-block-if folded false f at k v n m l eg ea ek ev en em ef el =
-      rw (ev, en, em, el, ef, set-get_or i.kinds at 0) (by-block-full folded (ltb-false _ _ (sym eg)))
+      (record { kinds = set i.kinds at v; nkinds = i.nkinds + u; spans = i.spans; nspans = i.nspans; previous = i.previous; nprevious = i.nprevious + u; level = i.level + t })
+  block_if folded true f at k v u t eg ea ek ev eu ef et =
+      let h = ltb-true _ _ (sym eg) in
+      let a : at ≡ i.nkinds = ea ∙ min-eq_left (omega arith) in
+      rw (a, ev, eu, et, ef) (rw (previous-above, counted-so) at (block_pushed folded k ek h))
+  block_if folded false f at k v u t eg ea ek ev eu ef et =
+      rw (ev, eu, et, ef, set-get_or i.kinds at 0) (simp add-zero (by-block-full folded (ltb-false _ _ (sym eg))))
 
   -- ---- a top-level entry less
 
-  pub by-no-top : (b : Bool) → b ≡ ends_top (types_of i) → b ≡ false → Stands (decrease_top_level (indentation_of i)) i
+  by-no-top : ends_top (types_of i) ≡ false → Stands (decrease_top_level (indentation_of i)) i
   unfolding decrease_top_level indentation_of
-  by-no-top b e h = record { is = sym (top-stays (types_of i) (sym e ∙ h) (indentation_of i)); clean = c }
+  by-no-top e = record { is = sym (top-stays (types_of i) e (indentation_of i)); clean = c }
 
   top-popped : ends_top (types_of i) ≡ true
       → Stands (decrease_top_level (indentation_of i))
@@ -410,9 +402,9 @@ module _ (i : Code) (c : Clean i) where
       zero_kind : ends_top (types_of i) ≡ true → get_or i.kinds (i.nkinds - 1) 0 ≡ 0
       zero_kind e =
           ⊎_elim
-          (λ (z : i.nkinds ≡ 0). false_true (rw z at e))
+          (λ (z : i.nkinds ≡ 0). let t : false ≡ true = rw z at e in cc)
           (λ (z : i.nkinds ≡ 0 → ⊥). eqb-true (get_or i.kinds (i.nkinds - 1) 0) 0 (ends-kind (get_or i.kinds (i.nkinds - 1) 0) (map type_of (stack 0 (i.nkinds - 1) i.kinds)) ∙ (rw (stack-pop 0 i.nkinds i.kinds z) at e)))
-          (same_or i.nkinds 0)
+          (cases_eq i.nkinds 0)
 
   -- the arrays after a top-level entry
   pub by-popped : ends_top (types_of i) ≡ true
@@ -420,25 +412,16 @@ module _ (i : Code) (c : Clean i) where
       (record { kinds = i.kinds; nkinds = i.nkinds - 1; spans = set i.spans (i.nspans - 1) 0; nspans = i.nspans - 1; previous = set i.previous (i.nprevious - 1) no_previous; nprevious = i.nprevious - 1; level = i.level - 1 })
   by-popped h = rw (top-kind h) at (top-popped h)
 
-  pub by-top-pops-if : (b e g : Bool) (s v n p m k l : ℕ) (u w : Previous) → e ≡ ends_top (types_of i) → g ≡ (b && e) → s ≡ i.nspans - 1 → v ≡ (if g then 0 else get_or i.spans s 0) → n ≡ (if g then i.nspans - 1 else i.nspans) → p ≡ i.nprevious - 1 → u ≡ no_previous → w ≡ (if g then u else get_or i.previous p no_previous) → m ≡ (if g then i.nprevious - 1 else i.nprevious) → k ≡ (if g then i.nkinds - 1 else i.nkinds) → l ≡ (if g then i.level - 1 else i.level)
+  pub untop_if : (b g : Bool) (s v p u n m k l : ℕ) (w : Previous) → g ≡ (b && ends_top (types_of i)) → s ≡ i.nspans - 1 → v ≡ (if g then 0 else get_or i.spans s 0) → p ≡ i.nprevious - 1 → w ≡ (if g then no_previous else get_or i.previous p no_previous) → u ≡ from_bool g → n ≡ i.nspans - u → m ≡ i.nprevious - u → k ≡ i.nkinds - u → l ≡ i.level - u
       → Stands (when b decrease_top_level (indentation_of i))
       (record { kinds = i.kinds; nkinds = k; spans = set i.spans s v; nspans = n; previous = set i.previous p w; nprevious = m; level = l })
   unfolding when
-  by-top-pops-if b e true s v n p m k l u w ee eg es ev en ep eu ew em ek el =
-      rw (left-of b _ (sym eg), es, ev, en, ep, ew, eu, em, ek, el) (by-popped (sym ee ∙ right_of b _ (sym eg)))
-  by-top-pops-if b e false s v n p m k l u w ee eg es ev en ep eu ew em ek el =
-      let f = unless_both b e decrease_top_level (indentation_of i) (sym eg) (λ q. sym (by-no-top e ee q).is) in
-      rw (f, ev, en, ew, em, ek, el, set-get_or i.spans s 0, set-get_or i.previous p no_previous) stays
-
-  pub top-shortens : (r : Code) → ends_top (types_of i) ≡ true → Stands (decrease_top_level (indentation_of i)) r → r.nkinds < i.nkinds
-  unfolding decrease_top_level indentation_of
-  top-shortens r h s =
-      let e : types_of r ≡ tail (types_of i) = ap (λ (d : Indentation ℕ). d.indent_types) (s.is ∙ top-pops (types_of i) h (indentation_of i)) in
-      let l = types_length i in
-      let m = types_length r in
-      let t = top-length (types_of i) h in
-      let q = ap length e in
-      omega arith
+  untop_if b true s v p u n m k l w eg es ev ep ew eu en em ek el =
+      let t = and_parts b _ (sym eg) in
+      rw (t.0, es, ev, en, ep, ew, em, ek, el, eu) (by-popped t.1)
+  untop_if b false s v p u n m k l w eg es ev ep ew eu en em ek el =
+      let f = unless_both b (ends_top (types_of i)) decrease_top_level (indentation_of i) (sym eg) (λ q. sym (by-no-top q).is) in
+      rw (f, ev, en, ew, em, ek, el, eu, set-get_or i.spans s 0, set-get_or i.previous p no_previous) (simp sub-zero stays)
 
   -- ---- a block less
 
@@ -476,21 +459,23 @@ module _ (i : Code) (c : Clean i) where
         };
       }
 
-  pub by-closes : (g : Bool) (k q l : ℕ) (u : Previous) → g ≡ ltb 0 i.nkinds → ends_top (types_of i) ≡ false → k ≡ i.nkinds - 1 → q ≡ (if g then i.nprevious - 1 else i.nprevious) → u ≡ no_previous → l ≡ (if eqb (get_or i.kinds k 0) 1 then i.level - 1 else i.level)
+  pub by-closes : (k q l f g : ℕ) → ends_top (types_of i) ≡ false → k ≡ i.nkinds - 1 → f ≡ from_bool (ltb 0 i.nkinds) → q ≡ i.nprevious - f → g ≡ from_bool (eqb (get_or i.kinds k 0) BLOCK) → l ≡ i.level - g
       → StandsClosed (decrease_block_level (indentation_of i))
       (record {
-        folded = eqb (get_or i.kinds k 0) 2;
-        left = record { kinds = set i.kinds k 0; nkinds = k; spans = i.spans; nspans = i.nspans; previous = set i.previous q u; nprevious = q; level = l };
+        folded = eqb (get_or i.kinds k 0) FOLDED_BLOCK;
+        left = record { kinds = set i.kinds k 0; nkinds = k; spans = i.spans; nspans = i.nspans; previous = set i.previous q no_previous; nprevious = q; level = l };
       })
-  by-closes true k q l u eg h ek eq eu el =
-      let some : 0 < i.nkinds = ltb-true 0 i.nkinds (sym eg) in
-      rw (el, ek, eq, eu) (block_popped (λ z. omega arith) h)
-  by-closes false k q l u eg h ek eq eu el =
-      let few : i.nkinds ≤ 0 = ltb-false 0 i.nkinds (sym eg) in
-      let z : i.nkinds ≡ 0 = omega arith in
+  by-closes k q l f g h ek ef eq eg el =
+      ⊎_elim
+      (λ (z : i.nkinds ≡ 0).
       let k0 : k ≡ i.nkinds = omega arith in
       let a : get_or i.kinds i.nkinds 0 ≡ 0 = c.kinds.above i.nkinds (omega arith) in
-      rw (el, k0, a, kinds-above, eq, eu, previous-above) (by-none-left z)
+      let q0 : q ≡ i.nprevious = eq ∙ (rw (ef, z) (sub-zero i.nprevious)) in
+      rw (el, eg, k0, a, kinds-above, q0, previous-above) (simp sub-zero (by-none-left z)))
+      (λ (z : i.nkinds ≡ 0 → ⊥).
+      let q1 : q ≡ i.nprevious - 1 = eq ∙ (rw (ef, lt-ltb 0 i.nkinds (omega arith))) in
+      rw (el, eg, ek, q1) (rw fewer-so at (block_popped z h)))
+      (cases_eq i.nkinds 0)
 
   -- ---- previous words: the first, and one in place of the last
 
@@ -548,12 +533,12 @@ module _ (i : Code) (c : Clean i) where
   unfolding indentation_of
   some_words z = rw (stack-pop no_previous i.nprevious i.previous z)
 
-  by-first-reserved : (t : ℕ) (u v : Previous) → i.nprevious ≡ 0 → u ≡ no_previous → v ≡ reserved_after u t
+  by-first-reserved : (t : ℕ) (v : Previous) → i.nprevious ≡ 0 → v ≡ reserved_after no_previous t
       → Stands (set_previous_reserved t (indentation_of i))
       (record { kinds = i.kinds; nkinds = i.nkinds; spans = i.spans; nspans = i.nspans; previous = set i.previous 0 v; nprevious = 1; level = i.level })
   unfolding set_previous_reserved mark_reserved previous_of top_of
-  by-first-reserved t u v z e f =
-      rw (f, e) (first_word (reserved_after no_previous t) _ z (told-reserved no_previous t told_none) (rw (after-reserved, no_words z)))
+  by-first-reserved t v z e =
+      rw e (first_word (reserved_after no_previous t) _ z (told-reserved no_previous t told_none) (rw (after-reserved, no_words z)))
 
   by-first-top-level : (t : ℕ) (sp : SpanInfo) (v : Previous) → i.nprevious ≡ 0 → v ≡ top_level_after (t + 1) sp
       → Stands (set_previous_top_level t sp (indentation_of i))
@@ -579,43 +564,43 @@ module _ (i : Code) (c : Clean i) where
   nothing_above : (n : ℕ) → i.nprevious ≡ 0 → get_or i.previous n no_previous ≡ no_previous
   nothing_above n z = c.previous.above n (omega arith)
 
-  pub by-noted-reserved : (t at m : ℕ) (v : Previous) → at ≡ i.nprevious - 1 → v ≡ reserved_after (get_or i.previous at no_previous) t → m ≡ at + 1
+  pub noted_reserved : (t at : ℕ) (v : Previous) → at ≡ i.nprevious - 1 → v ≡ reserved_after (get_or i.previous at no_previous) t
       → Stands (set_previous_reserved t (indentation_of i))
-      (record { kinds = i.kinds; nkinds = i.nkinds; spans = i.spans; nspans = i.nspans; previous = set i.previous at v; nprevious = m; level = i.level })
-  by-noted-reserved t at m v ea ev em =
+      (record { kinds = i.kinds; nkinds = i.nkinds; spans = i.spans; nspans = i.nspans; previous = set i.previous at v; nprevious = at + 1; level = i.level })
+  noted_reserved t at v ea ev =
       ⊎_elim
       (λ (z : i.nprevious ≡ 0).
       let a : at ≡ 0 = omega arith in
-      let b : m ≡ 1 = omega arith in
-      rw (a, b) (by-first-reserved t no_previous v z refl (rw (nothing_above at z) at ev)))
+      let b : at + 1 ≡ 1 = omega arith in
+      rw (b, a) (by-first-reserved t v z (rw (nothing_above at z) at ev)))
       (λ (z : i.nprevious ≡ 0 → ⊥).
-      let b : m ≡ i.nprevious = omega arith in
+      let b : at + 1 ≡ i.nprevious = omega arith in
       rw (b, ea) (by-next-reserved t v z (rw ea at ev)))
-      (same_or i.nprevious 0)
+      (cases_eq i.nprevious 0)
 
-  pub by-noted-top-level : (t at m w : ℕ) (sp : SpanInfo) (v : Previous) → at ≡ i.nprevious - 1 → w ≡ (if eqb i.nprevious 0 then t + 1 else (get_or i.previous at no_previous).word) → v ≡ top_level_after w sp → m ≡ at + 1
+  pub noted_top_level : (t at w : ℕ) (sp : SpanInfo) (v : Previous) → at ≡ i.nprevious - 1 → w ≡ (if eqb i.nprevious 0 then t + 1 else (get_or i.previous at no_previous).word) → v ≡ top_level_after w sp
       → Stands (set_previous_top_level t sp (indentation_of i))
-      (record { kinds = i.kinds; nkinds = i.nkinds; spans = i.spans; nspans = i.nspans; previous = set i.previous at v; nprevious = m; level = i.level })
-  by-noted-top-level t at m w sp v ea ew ev em =
+      (record { kinds = i.kinds; nkinds = i.nkinds; spans = i.spans; nspans = i.nspans; previous = set i.previous at v; nprevious = at + 1; level = i.level })
+  noted_top_level t at w sp v ea ew ev =
       ⊎_elim
       (λ (z : i.nprevious ≡ 0).
       let a : at ≡ 0 = omega arith in
-      let b : m ≡ 1 = omega arith in
-      rw (a, b) (by-first-top-level t sp v z (rw (ew, z) at ev)))
+      let b : at + 1 ≡ 1 = omega arith in
+      rw (b, a) (by-first-top-level t sp v z (rw (ew, z) at ev)))
       (λ (z : i.nprevious ≡ 0 → ⊥).
-      let b : m ≡ i.nprevious = omega arith in
+      let b : at + 1 ≡ i.nprevious = omega arith in
       rw (b, ea) (by-next-top-level t sp v z (rw (ew, ne_eqb _ _ z, ea) at ev)))
-      (same_or i.nprevious 0)
+      (cases_eq i.nprevious 0)
 
   -- ---- what is read
 
-  pub by-ends : (b : Bool) (k : ℕ) → k ≡ i.nkinds - 1 → b ≡ top_in i.nkinds (get_or i.kinds k 0) → b ≡ ends_top (types_of i)
-  unfolding types_of top_in ends_top
-  by-ends b k ek eb = eb ∙ (rw ek (go i.nkinds))
-    where
-      go : (n : ℕ) → top_in n (get_or i.kinds (n - 1) 0) ≡ ends_top (map type_of (stack 0 n i.kinds))
-      go zero = refl
-      go (suc n) = let e : suc n - 1 ≡ n = omega arith in rw e (ends-kind (get_or i.kinds n 0) (map type_of (stack 0 n i.kinds)))
+  pub by_ends : (i.nkinds ≡ 0 → ⊥) → eqb (get_or i.kinds (i.nkinds - 1) 0) 0 ≡ ends_top (types_of i)
+  unfolding types_of
+  by_ends z = rw (stack-pop 0 i.nkinds i.kinds z) (ends-kind (get_or i.kinds (i.nkinds - 1) 0) (map type_of (stack 0 (i.nkinds - 1) i.kinds)))
+
+  pub by_no_ends : i.nkinds ≡ 0 → false ≡ ends_top (types_of i)
+  unfolding types_of ends_top
+  by_no_ends z = rw z
 
   pub by_last : (at : ℕ) → at ≡ i.nprevious - 1 → get_or i.previous at no_previous ≡ last_of i
   unfolding last_of
@@ -623,26 +608,22 @@ module _ (i : Code) (c : Clean i) where
       ⊎_elim
       (λ (z : i.nprevious ≡ 0). nothing_above at z ∙ (rw z))
       (λ (z : i.nprevious ≡ 0 → ⊥). rw (ea, stack-pop no_previous i.nprevious i.previous z))
-      (same_or i.nprevious 0)
+      (cases_eq i.nprevious 0)
 
-  pub by-span-none : i.nspans ≡ 0 → 0 ≡ span (indentation_of i)
+  pub by_span : (o : Option ℕ) (r : ℕ) → o ≡ slice_get (take i.nspans i.spans) (length (take i.nspans i.spans) - 1) → r ≡ unwrap_or o 0 → r ≡ span (indentation_of i)
   unfolding indentation_of span
-  by-span-none z = rw z
+  by_span o r eo er = let w = c.spans.within in let l = c.spans.long in top_is 0 i.nspans i.spans o r (omega arith) eo er
 
-  pub by_span : (i.nspans ≡ 0 → ⊥) → get_or i.spans (i.nspans - 1) 0 ≡ span (indentation_of i)
-  unfolding indentation_of span
-  by_span z = rw (stack-pop 0 i.nspans i.spans z)
-
-  pub by-full : leb 128 i.nkinds ≡ full (indentation_of i).indent_types
+  pub by_full : leb 128 i.nkinds ≡ full (indentation_of i).indent_types
   unfolding indentation_of full
-  by-full = rw (types_length i)
+  by_full = rw (types_length i)
 
-  by-top-level : top_of (last_of i).marks (top_span (last_of i)) ≡ previous_top_level_reserved (indentation_of i)
+  pub by_top_level : top_of (last_of i).marks (top_span (last_of i)) ≡ previous_top_level_reserved (indentation_of i)
   unfolding last_of previous_top_level_reserved indentation_of
-  by-top-level = sym (last-top-level (stack no_previous i.nprevious i.previous))
+  by_top_level = sym (last-top-level (stack no_previous i.nprevious i.previous))
 
   pub by-top-level-in : (p : Previous) (v : Option SpanInfo) → p ≡ last_of i → v ≡ top_of p.marks (top_span p) → v ≡ previous_top_level_reserved (indentation_of i)
-  by-top-level-in p v e h = h ∙ (rw (← e) at by-top-level)
+  by-top-level-in p v e h = h ∙ (rw (← e) at by_top_level)
 
   reserved-told : word_of (last_of i).word ≡ previous_reserved (indentation_of i)
   unfolding last_of previous_reserved indentation_of
@@ -651,32 +632,25 @@ module _ (i : Code) (c : Clean i) where
   pub by-reserved-in : (p : Previous) (v : Option ℕ) → p ≡ last_of i → v ≡ word_of p.word → v ≡ previous_reserved (indentation_of i)
   by-reserved-in p v e h = h ∙ (rw (← e) at reserved-told)
 
-  pub by_level : (n : ℕ) (folded : Bool) → n ≡ (if folded then i.level - 1 else i.level) → (n ≡ indent_level folded (indentation_of i)) × (n ≤ 128)
+  pub by_level : (folded : Bool) (u n : ℕ) → u ≡ from_bool folded → n ≡ i.level - u → (n ≡ indent_level folded (indentation_of i)) × (n ≤ 128)
   unfolding indent_level indentation_of
-  by_level n true e = let h = level-within i c in (e ∙ ap (λ (m : ℕ). m - 1) c.counted, omega arith)
-  by_level n false e = let h = level-within i c in (e ∙ c.counted ∙ sym (sub-zero (unfolded (types_of i))), omega arith)
+  by_level true u n eu en = let h = level-within i c in let k = c.counted in (omega arith, omega arith)
+  by_level false u n eu en = let h = level-within i c in let k = c.counted in (omega arith, omega arith)
 
-  pub by-level-into : (folded f b : Bool) (n : ℕ) → f ≡ full (indentation_of i).indent_types → b ≡ (not folded && not f) → n ≡ (if b then i.level + 1 else i.level)
-      → (n ≡ indent_level false (increase_block_level folded (indentation_of i))) × (n ≤ 128)
-  unfolding indent_level indentation_of increase_block_level unfolded full
-  by-level-into folded true b n ef eb en =
-      let h = level-within i c in
-      let e : n ≡ i.level = rw (eb, none_more folded) at en in
-      (rw (← ef) (e ∙ c.counted ∙ sym (sub-zero (unfolded (types_of i)))), omega arith)
-    where
-      none_more : (folded : Bool) → (not folded && false) ≡ false
-      none_more true = refl
-      none_more false = refl
-  by-level-into true false b n ef eb en =
-      let h = level-within i c in
-      let e : n ≡ i.level = rw eb at en in
-      (rw (← ef) (e ∙ c.counted ∙ sym (sub-zero (unfolded (types_of i)))), omega arith)
-  by-level-into false false b n ef eb en =
+  pub by_level_into : (folded b : Bool) (u : ℕ) → b ≡ (not folded && not (full (indentation_of i).indent_types)) → u ≡ from_bool b
+      → (i.level + u ≡ indent_level false (increase_block_level folded (indentation_of i))) × (i.level + u ≤ 128)
+  unfolding indent_level indentation_of increase_block_level unfolded full types_of
+  by_level_into folded b u eb eu =
       let t = unfolded-within (types_of i) in
-      let k = leb-false 128 (length (types_of i)) (sym ef) in
-      let w = c.counted in
-      let e : n ≡ suc (unfolded (types_of i)) = rw eb at en ∙ omega arith in
-      (rw (← ef) (e ∙ sym (sub-zero (suc (unfolded (types_of i))))), omega arith)
+      let h = level-within i c in
+      rw (eu, eb) (go folded (full (types_of i)) (leb-false 128 (length (types_of i))))
+    where
+      go : (folded f : Bool) → (f ≡ false → length (types_of i) < 128)
+          → (i.level + from_bool (not folded && not f) ≡ unfolded (if f then indentation_of i else record { indent_types = (if folded then FoldedBlock else Block) ∷ types_of i; top_level_span = (indentation_of i).top_level_span; previous = none_before ∷ (indentation_of i).previous }).indent_types - 0) × (i.level + from_bool (not folded && not f) ≤ 128)
+      go true true k = let w = c.counted in let h = level-within i c in (omega arith, omega arith)
+      go true false k = let w = c.counted in let h = level-within i c in (omega arith, omega arith)
+      go false true k = let w = c.counted in let h = level-within i c in (omega arith, omega arith)
+      go false false k = let t = unfolded-within (types_of i) in let w = c.counted in let h = k refl in (omega arith, omega arith)
 
 -- ---- the loop that pops a block
 
@@ -688,42 +662,34 @@ pub record Left (d : Indentation ℕ) (i : Code) : Type 0 where
 pub left-starts : (i : Code) → Clean i → Left (indentation_of i) i
 left-starts i c = record { clean = c; same = refl }
 
-pub left-place : (d : Indentation ℕ) (i : Code) → Left d i → (g : Bool) (q : ℕ) → g ≡ ltb 0 i.nkinds → q ≡ (if g then i.nprevious - 1 else i.nprevious) → q < 129
-left-place d i l true q eg eq = let w = l.clean.previous.within in rw eq (omega arith)
-left-place d i l false q eg eq =
-    let f = l.clean.fewer in
-    let z : i.nkinds ≤ 0 = ltb-false 0 i.nkinds (sym eg) in
-    rw eq (omega arith)
-
-module _ (d : Indentation ℕ) (i : Code) (l : Left d i) (b : Bool) (k : ℕ) (ek : k ≡ i.nkinds - 1) (eb : b ≡ top_in i.nkinds (get_or i.kinds k 0)) where
-  ends : b ≡ ends_top (types_of i)
-  ends = by-ends i l.clean b k ek eb
-
-  pub left-shorter : b ≡ true → i.nkinds - 1 < i.nkinds
-  left-shorter h = top-shortens i l.clean _ (sym ends ∙ h) (by-popped i l.clean (sym ends ∙ h))
-
-  pub left-goes : (n s p m : ℕ) (u : Previous) → b ≡ true → n ≡ i.nkinds - 1 → s ≡ i.nspans - 1 → p ≡ i.nprevious - 1 → m ≡ i.level - 1 → u ≡ no_previous
-      → Left d (record { kinds = i.kinds; nkinds = n; spans = set i.spans s 0; nspans = s; previous = set i.previous p u; nprevious = p; level = m })
+module _ (d : Indentation ℕ) (i : Code) (l : Left d i) where
+  pub left_goes : (s p m : ℕ) → 0 < i.nkinds → get_or i.kinds (i.nkinds - 1) 0 ≡ TOP → s ≡ i.nspans - 1 → p ≡ i.nprevious - 1 → m ≡ i.level - 1
+      → Left d (record { kinds = i.kinds; nkinds = i.nkinds - 1; spans = set i.spans s 0; nspans = s; previous = set i.previous p no_previous; nprevious = p; level = m })
   unfolding indentation_of
-  left-goes n s p m u h en es ep em eu =
-      let t = by-popped i l.clean (sym ends ∙ h) in
-      rw (en, es, ep, em, eu)
-      (record { clean = t.clean; same = ap decrease_block_level t.is ∙ top-skips (indentation_of i) (sym ends ∙ h) ∙ l.same })
+  left_goes s p m z h es ep em =
+      let e : ends_top (types_of i) ≡ true = sym (by_ends i l.clean (λ q. omega arith)) ∙ eq-eqb _ _ h in
+      let t = by-popped i l.clean e in
+      rw (es, ep, em)
+      (record { clean = t.clean; same = ap decrease_block_level t.is ∙ top-skips (indentation_of i) e ∙ l.same })
 
-  pub left-closes : (g : Bool) (m q n : ℕ) (u : Previous) → b ≡ false → g ≡ ltb 0 i.nkinds → m ≡ i.nkinds - 1 → q ≡ (if g then i.nprevious - 1 else i.nprevious) → u ≡ no_previous → n ≡ (if eqb (get_or i.kinds m 0) 1 then i.level - 1 else i.level)
+  pub left_none : i.nkinds ≤ 0 → ends_top (types_of i) ≡ false
+  left_none h = sym (by_no_ends i l.clean (omega arith))
+
+  pub left_block : 0 < i.nkinds → (get_or i.kinds (i.nkinds - 1) 0 ≡ TOP → ⊥) → ends_top (types_of i) ≡ false
+  left_block z h = sym (by_ends i l.clean (λ q. omega arith)) ∙ ne_eqb _ _ h
+
+  pub left_closes : (k q n f g : ℕ) → ends_top (types_of i) ≡ false → k ≡ i.nkinds - 1 → f ≡ from_bool (ltb 0 i.nkinds) → q ≡ i.nprevious - f → g ≡ from_bool (eqb (get_or i.kinds k 0) BLOCK) → n ≡ i.level - g
       → StandsClosed (decrease_block_level d)
       (record {
-        folded = eqb (get_or i.kinds m 0) 2;
-        left = record { kinds = set i.kinds m 0; nkinds = m; spans = i.spans; nspans = i.nspans; previous = set i.previous q u; nprevious = q; level = n };
+        folded = eqb (get_or i.kinds k 0) FOLDED_BLOCK;
+        left = record { kinds = set i.kinds k 0; nkinds = k; spans = i.spans; nspans = i.nspans; previous = set i.previous q no_previous; nprevious = q; level = n };
       })
-  left-closes g m q n u h eg em eq eu en = rw l.same at (by-closes i l.clean g m q n u eg (sym ends ∙ h) em eq eu en)
+  left_closes k q n f g h ek ef eq eg en = rw l.same at (by-closes i l.clean k q n f g h ek ef eq eg en)
 
-pub by-new : (v : Previous) → v ≡ no_previous
-    → Stands no_indentation (record { kinds = replicate 128 0; nkinds = 0; spans = replicate 128 0; nspans = 0; previous = replicate 129 v; nprevious = 0; level = 0 })
+pub by_new : Stands no_indentation (record { kinds = replicate 128 0; nkinds = 0; spans = replicate 128 0; nspans = 0; previous = replicate 129 no_previous; nprevious = 0; level = 0 })
 unfolding no_indentation indentation_of types_of tops unfolded
-by-new v e =
-    rw e
-    (record {
+by_new =
+    record {
       is = refl;
       clean = record {
         kinds = kept-none 0 128;
@@ -735,4 +701,4 @@ by-new v e =
         fewer = omega arith;
         counted = refl;
       };
-    })
+    }

@@ -1,7 +1,7 @@
 -- Two results that stand for the same stacks are one. Assumes nothing.
 use mathlib.Core.Path.{◌≡◌, refl, sym, ap, ◌∙◌}
 use mathlib.Core.Bool.{Bool}
-use mathlib.Core.Option.{Option, none, some}
+use Rattle.std.specs.Prelude.{Option}
 use mathlib.Core.List.{List, [], ◌∷◌, map}
 use Prim.Native.Nat.{ℕ, zero, suc, ◌≤◌}
 use native.Mathlib.Omega.{arith}
@@ -11,34 +11,27 @@ use Rattle.stacks.proofs.StackLaws.{same_count, same-array}
 use Rattle.indentation.specs.declared.Previous.{Previous}
 use Rattle.indentation.specs.declared.Indentation.{Indentation as Code}
 use Rattle.indentation.specs.declared.Closed.{Closed as CodeClosed}
-use Rattle.indentation.specs.declared.Word.{Word}
-use Rattle.indentation.specs.declared.Word.TheVariants as word
-use Rattle.indentation.specs.declared.TopLevel.{TopLevel}
-use Rattle.indentation.specs.declared.TopLevel.TheVariants as top
-use Rattle.indentation.specs.Of.{type_of, word_of, top_span, top_of, previous_of, no_previous, entry_for, types_of, indentation_of, Told, word_in, span_in, Stands, StandsClosed}
-
-no_way : {A : Type 0} → ◌≡◌ {A = ℕ} 0 1 → A
-no_way e = absurd (omega arith)
+use Rattle.indentation.specs.Of.{type_of, word_of, top_span, top_of, previous_of, no_previous, entry_for, types_of, indentation_of, Told, Stands, StandsClosed}
 
 -- ---- one entry
 
 one-kind : (x y : ℕ) → x ≤ 2 → y ≤ 2 → type_of x ≡ type_of y → x ≡ y
 unfolding type_of
 one-kind zero zero p q e = refl
-one-kind zero (suc zero) p q e = no_way (cc)
-one-kind zero (suc (suc y)) p q e = no_way (cc)
-one-kind (suc zero) zero p q e = no_way (cc)
+one-kind zero (suc zero) p q e = cc
+one-kind zero (suc (suc y)) p q e = cc
+one-kind (suc zero) zero p q e = cc
 one-kind (suc zero) (suc zero) p q e = refl
-one-kind (suc zero) (suc (suc y)) p q e = no_way (cc)
-one-kind (suc (suc x)) zero p q e = no_way (cc)
-one-kind (suc (suc x)) (suc zero) p q e = no_way (cc)
+one-kind (suc zero) (suc (suc y)) p q e = cc
+one-kind (suc (suc x)) zero p q e = cc
+one-kind (suc (suc x)) (suc zero) p q e = cc
 one-kind (suc (suc x)) (suc (suc y)) p q e = omega arith
 
 one_word : (x y : ℕ) → word_of x ≡ word_of y → x ≡ y
 unfolding word_of
 one_word zero zero e = refl
-one_word zero (suc y) e = no_way (cc)
-one_word (suc x) zero e = no_way (cc)
+one_word zero (suc y) e = cc
+one_word (suc x) zero e = cc
 one_word (suc x) (suc y) e = let z : x ≡ y = cc in omega arith
 
 one-previous : (x y : Previous) → Told x → Told y → previous_of x ≡ previous_of y → x ≡ y
@@ -88,27 +81,9 @@ closed-one w r q s t =
     mk : Bool → Code → CodeClosed
     mk f l = record { folded = f; left = l }
 
--- back from what is told
-word-by : Option ℕ → Word
-word-by none = word.Nothing
-word-by (some n) = word.Token n
+-- the contracts of `reserved` and `top_level_reserved` leave one result
+pub word-one : (w : ℕ) (r q : Option ℕ) → r ≡ word_of w → q ≡ word_of w → r ≡ q
+word-one w r q d e = d ∙ sym e
 
-word_back : (r : Word) → word-by (word_in r) ≡ r
-unfolding word-by word_in
-word_back (word.Token n) = refl
-word_back word.Nothing = refl
-
-pub word-one : (r q : Word) → word_in r ≡ word_in q → r ≡ q
-word-one r q e = sym (word_back r) ∙ ap word-by e ∙ word_back q
-
-top-by : Option SpanInfo → TopLevel
-top-by none = top.Nothing
-top-by (some sp) = top.Span sp
-
-top_back : (r : TopLevel) → top-by (span_in r) ≡ r
-unfolding top-by span_in
-top_back (top.Span sp) = refl
-top_back top.Nothing = refl
-
-pub top_one : (r q : TopLevel) → span_in r ≡ span_in q → r ≡ q
-top_one r q e = sym (top_back r) ∙ ap top-by e ∙ top_back q
+pub top_one : (p : Previous) (r q : Option SpanInfo) → r ≡ top_of p.marks (top_span p) → q ≡ top_of p.marks (top_span p) → r ≡ q
+top_one p r q d e = d ∙ sym e

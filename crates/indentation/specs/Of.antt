@@ -1,6 +1,5 @@
 -- What the code's stacks stand for: words are tokens' numbers.
-use Rattle.std.specs.Prelude.{if◌then◌else◌, ◌≡◌, Bool, true, false, List, [], ◌∷◌, map, ℕ, zero, suc, ◌+◌, ◌%◌, ◌≤◌, eqb, ltb, get_or}
-use Rattle.std.proofs.Math.Option.{Option, none, some}
+use Rattle.std.specs.Prelude.{if◌then◌else◌, ◌≡◌, Bool, true, false, List, [], ◌∷◌, map, ℕ, zero, suc, ◌+◌, ◌%◌, ◌≤◌, eqb, ltb, get_or, Option, None, Some}
 use Rattle.rules.specs.declared.IndentType.{IndentType}
 use Rattle.rules.specs.declared.IndentType.TheVariants.{Top, Block, FoldedBlock}
 use Rattle.rules.specs.declared.SpanInfo.{SpanInfo}
@@ -8,8 +7,7 @@ use Rattle.rules.specs.Indentation.{is_single, Indentation, PreviousTokens, Clos
 use Rattle.stacks.specs.Stack.{stack, Kept}
 use Rattle.indentation.specs.declared.Previous.{Previous}
 use Rattle.indentation.specs.declared.Indentation.{Indentation as Code}
-use Rattle.indentation.specs.declared.Word.{Word}
-use Rattle.indentation.specs.declared.TopLevel.{TopLevel}
+use Rattle.indentation.specs.declared.TheConstants.{BLOCK, FOLDED_BLOCK}
 use Rattle.indentation.specs.declared.Closed.{Closed as CodeClosed}
 
 unfoldable pub type_of : ℕ → IndentType
@@ -18,17 +16,12 @@ type_of (suc zero) = Block
 type_of (suc (suc k)) = FoldedBlock
 
 unfoldable pub kind_for : Bool → ℕ
-kind_for true = 2
-kind_for false = 1
-
--- the last of n kinds, k, is a top-level one
-unfoldable pub top_in : ℕ → ℕ → Bool
-top_in zero k = false
-top_in (suc n) k = eqb k 0
+kind_for true = FOLDED_BLOCK
+kind_for false = BLOCK
 
 unfoldable pub word_of : ℕ → Option ℕ
-word_of zero = none
-word_of (suc n) = some n
+word_of zero = None
+word_of (suc n) = Some n
 
 -- the marks of a top-level word: whether its span is single, and whether it has a newline after
 unfoldable pub marks_of : Bool → Bool → ℕ
@@ -43,8 +36,8 @@ top_span p = record { full_span = p.full_span; blocks = 0; newline_before = fals
 
 -- there is one where there are marks
 unfoldable pub top_of : ℕ → SpanInfo → Option SpanInfo
-top_of zero sp = none
-top_of (suc m) sp = some sp
+top_of zero sp = None
+top_of (suc m) sp = Some sp
 
 unfoldable pub previous_of : Previous → PreviousTokens ℕ
 previous_of p = record { top_level_reserved = top_of p.marks (top_span p); reserved = word_of p.word }
@@ -66,8 +59,8 @@ top_level_after word sp = entry sp.full_span word (marks_of (is_single sp) sp.ne
 
 -- the one entry for a span, or none, and a word
 unfoldable pub entry_for : Option SpanInfo → ℕ → Previous
-entry_for none word = entry 0 word 0
-entry_for (some sp) word = top_level_after word sp
+entry_for None word = entry 0 word 0
+entry_for (Some sp) word = top_level_after word sp
 
 unfoldable pub types_of : Code → List IndentType
 types_of i = map type_of (stack 0 i.nkinds i.kinds)
@@ -83,14 +76,6 @@ indentation_of i =
 -- the last previous words, or none
 unfoldable pub last_of : Code → Previous
 last_of i = get_or (stack no_previous i.nprevious i.previous) 0 no_previous
-
-unfoldable pub word_in : Word → Option ℕ
-word_in (Word.Token n) = some n
-word_in Word.Nothing = none
-
-unfoldable pub span_in : TopLevel → Option SpanInfo
-span_in (TopLevel.Span sp) = some sp
-span_in TopLevel.Nothing = none
 
 -- the top-level entries
 unfoldable pub tops : List IndentType → ℕ

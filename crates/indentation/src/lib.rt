@@ -4,10 +4,10 @@
 ghost use Rattle.std.specs.Prelude.{if◌then◌else◌, ◌≡◌, false, ◌+◌, ◌-◌, ◌≤◌, ◌<◌, eqb};
 ghost use Rattle.rules.specs.Indentation.{is_single, no_indentation, indent_level, increase_top_level, increase_block_level, decrease_top_level, decrease_block_level, set_previous_reserved, set_previous_top_level, previous_top_level_reserved, span as span_of};
 ghost use Rattle.rules.specs.Base.{when, full};
-ghost use Rattle.indentation.specs.Of.{indentation_of, types_of, no_previous, ends_top, kind_for, word_of, marks_of, top_span, top_of, reserved_after, top_level_after, top_in, last_of, word_in, span_in, Clean, Stands, StandsClosed};
+ghost use Rattle.indentation.specs.Of.{indentation_of, types_of, ends_top, kind_for, word_of, marks_of, top_span, top_of, reserved_after, top_level_after, last_of, Clean, Stands, StandsClosed};
 
 use rules::SpanInfo;
-use stacks::{both, chosen, less, less_if, more_if, within};
+use stacks::chosen;
 
 // What is asked of the last top-level word's span, and the last reserved word: its token's number and one more, 0 where there is none.
 // Marks: 0 where there is no top-level word, else 1, one more where its span is single, two more where it has a newline after.
@@ -19,8 +19,23 @@ pub struct Previous {
     pub marks: u16,
 }
 
-// Kinds: 0 Top, 1 Block, 2 FoldedBlock. Entries above the counts are zero. The level is the count of entries that aren't folded.
+// Neither a top-level word nor a reserved one.
+const NO_PREVIOUS: Previous = Previous {
+    full_span: 0,
+    word: 0,
+    marks: 0,
+};
+
+// Kinds, as numbers: the customer asks for flat arrays of numbers.
+const TOP: u8 = 0;
+
+const BLOCK: u8 = 1;
+
+const FOLDED_BLOCK: u8 = 2;
+
+// Entries above the counts are zero. The level is the count of entries that aren't folded.
 // An operation takes out the arrays that it changes, each as a local of its own, and branches on numbers alone: so no other array is copied.
+// Stores into the fields take 1.4 times as long, and under an `if` with the counts 1.3 to 2 times.
 #[derive(Clone, Copy)]
 pub struct Indentation {
     pub kinds: [u8; 128],
@@ -32,20 +47,6 @@ pub struct Indentation {
     pub level: usize,
 }
 
-// A token's number, where there is one.
-#[derive(Drop)]
-pub enum Word {
-    Token(u16),
-    Nothing,
-}
-
-// A top-level word's span, where there is one.
-#[derive(Clone, Copy)]
-pub enum TopLevel {
-    Span(SpanInfo),
-    Nothing,
-}
-
 // Whether the block was folded, and what is left.
 #[derive(Drop)]
 pub struct Closed {
@@ -53,49 +54,13 @@ pub struct Closed {
     pub left: Indentation,
 }
 
-fn no_previous() -> Previous
-    ensures { result ≡ no_previous }
-{
-    Previous {
-        full_span: 0,
-        word: 0,
-        marks: 0,
-    }
-}
-
 // ---- numbers
 
+#[tactic(auto, unfolding(crate::specs::Of::kind_for))]
 fn block_kind(folded: bool) -> u8
     ensures { result ≡ kind_for folded }
 {
-    if folded { 2 } else { 1 }
-}
-
-// The last of n kinds is a top-level one.
-fn is_top(n: usize, kind: u8) -> bool
-    ensures { result ≡ top_in n kind }
-{
-    if n == 0 {
-        return false;
-    }
-    kind == 0
-}
-
-// ---- entries: one where b holds, else the other
-
-fn chosen_kind(b: bool, x: u8, y: u8) -> u8
-    ensures { result ≡ (if b then x else y) }
-{
-    if b { x } else { y }
-}
-
-fn chosen_previous(b: bool, x: Previous, y: Previous) -> Previous
-    ensures { result ≡ (if b then x else y) }
-{
-    if b {
-        return x;
-    }
-    y
+    if folded { FOLDED_BLOCK } else { BLOCK }
 }
 
 // The first reserved word stays.
@@ -111,34 +76,23 @@ fn reserved_after(last: Previous, token: u16) -> Previous
     ensures { result ≡ reserved_after last token }
 {
     Previous {
-        full_span: last.full_span,
         word: token + 1,
-        marks: last.marks,
+        ..last
     }
 }
 
+#[tactic(auto, using(crate::proofs::Laws::by_single), unfolding(rules::specs::Indentation::is_single))]
 fn is_single(span: SpanInfo) -> bool
     ensures { result ≡ is_single span }
 {
-    if 2 < span.blocks {
-        return false;
-    }
-    span.arguments == 1
+    span.blocks <= 2 && span.arguments == 1
 }
 
+#[tactic(auto, using(crate::proofs::Laws::by_marks))]
 fn marks_of(single: bool, after: bool) -> u16
     ensures { result ≡ marks_of single after }
 {
-    if single {
-        if after {
-            return 4;
-        }
-        return 2;
-    }
-    if after {
-        return 3;
-    }
-    1
+    1 + u16::from(single) + 2 * u16::from(after)
 }
 
 fn top_level_after(word: u16, span: SpanInfo) -> Previous
@@ -151,52 +105,43 @@ fn top_level_after(word: u16, span: SpanInfo) -> Previous
     }
 }
 
-fn one_if(b: bool) -> u16
-    ensures { result ≡ (if b then 1 else 0) }
-{
-    if b { 1 } else { 0 }
-}
-
 impl Previous {
-    pub fn reserved(self) -> Word
-        ensures { word_in result ≡ word_of self.word }
+    #[tactic(auto, using(crate::proofs::Laws::by_token))]
+    pub fn reserved(self) -> Option<u16>
+        ensures { result ≡ word_of self.word }
     {
-        let w = self.word;
-        if w == 0 {
-            return Word::Nothing;
-        }
-        Word::Token(w - 1)
+        self.word.checked_sub(1)
     }
 
-    pub fn top_level_reserved(self) -> TopLevel
-        ensures { span_in result ≡ top_of self.marks (top_span self) }
+    #[tactic(auto, using(crate::proofs::Laws::by_told), unfolding(crate::specs::Of::top_of))]
+    pub fn top_level_reserved(self) -> Option<SpanInfo>
+        ensures { result ≡ top_of self.marks (top_span self) }
     {
         let m = self.marks;
         if m == 0 {
-            return TopLevel::Nothing;
+            return None;
         }
-        let span = SpanInfo {
+        Some(SpanInfo {
             full_span: self.full_span,
             blocks: 0,
             newline_before: false,
             newline_after: 2 < m,
-            arguments: one_if(m % 2 == 0),
-        };
-        TopLevel::Span(span)
+            arguments: u16::from(m % 2 == 0),
+        })
     }
 }
 
 impl Indentation {
+    #[tactic(auto, using(crate::proofs::Laws::by_new))]
     pub fn new() -> Self
         ensures { Stands no_indentation result }
     {
-        let none = no_previous();
         Self {
             kinds: [0; 128],
             nkinds: 0,
             spans: [0; 128],
             nspans: 0,
-            previous: [none; 129],
+            previous: [NO_PREVIOUS; 129],
             nprevious: 0,
             level: 0,
         }
@@ -208,49 +153,54 @@ impl Indentation {
         Self::new()
     }
 
-    // Where b holds. A full stack stays. The entry's kind, 0, stands above the count.
+    // Where b holds. A full stack stays. The entry's kind, TOP, stands above the count.
+    #[tactic(auto, using(crate::proofs::Laws::by_room))]
     pub fn increase_top_level_if(mut self, b: bool, span: SpanInfo) -> Self
         requires { Clean self }
         ensures { Stands (when b (increase_top_level span) (indentation_of self)) result }
     {
-        let grows = both(b, self.nkinds < 128);
-        let at = within(self.nspans);
+        let grows = b && self.nkinds < 128;
+        let at = self.nspans.min(127);
         let mut spans = self.spans;
         let old = spans[at];
         spans[at] = chosen(grows, span.full_span, old);
         self.spans = spans;
-        self.nspans = more_if(grows, self.nspans);
-        self.nkinds = more_if(grows, self.nkinds);
-        self.level = more_if(grows, self.level);
+        let more = usize::from(grows);
+        self.nspans += more;
+        self.nkinds += more;
+        self.level += more;
         self
     }
 
     // A full stack stays. The block's previous words, none, stand above the count.
+    #[tactic(auto, using(crate::proofs::Laws::by_room))]
     pub fn increase_block_level(mut self, folded: bool) -> Self
         requires { Clean self }
         ensures { Stands (increase_block_level folded (indentation_of self)) result }
     {
         let grows = self.nkinds < 128;
-        let at = within(self.nkinds);
+        let at = self.nkinds.min(127);
         let kind = block_kind(folded);
         let mut kinds = self.kinds;
         let old = kinds[at];
-        kinds[at] = chosen_kind(grows, kind, old);
+        kinds[at] = chosen(grows, kind, old);
         self.kinds = kinds;
-        self.nkinds = more_if(grows, self.nkinds);
-        self.nprevious = more_if(grows, self.nprevious);
-        self.level = more_if(both(grows, kind == 1), self.level);
+        let more = usize::from(grows);
+        self.nkinds += more;
+        self.nprevious += more;
+        self.level += usize::from(grows && kind == BLOCK);
         self
     }
 
     // The top entry is a top-level one.
+    #[tactic(auto, using(crate::proofs::Laws::by_ends, crate::proofs::Laws::by_no_ends))]
     fn ends_top(self) -> bool
         requires { Clean self }
         ensures { result ≡ ends_top (types_of self) }
     {
         let n = self.nkinds;
         let kinds = self.kinds;
-        is_top(n, kinds[less(n)])
+        0 < n && kinds[n - 1] == TOP
     }
 
     // Where b holds. A previous word goes too, though `increase_top_level` pushes none.
@@ -258,21 +208,22 @@ impl Indentation {
         requires { Clean self }
         ensures { Stands (when b decrease_top_level (indentation_of self)) result }
     {
-        let ends = both(b, self.ends_top());
-        let s = less(self.nspans);
+        let ends = b && self.ends_top();
+        let s = self.nspans.saturating_sub(1);
         let mut spans = self.spans;
         let old = spans[s];
         spans[s] = chosen(ends, 0, old);
         self.spans = spans;
-        self.nspans = less_if(ends, self.nspans);
-        let p = less(self.nprevious);
+        let p = self.nprevious.saturating_sub(1);
         let mut previous = self.previous;
         let last = previous[p];
-        previous[p] = chosen_previous(ends, no_previous(), last);
+        previous[p] = chosen(ends, NO_PREVIOUS, last);
         self.previous = previous;
-        self.nprevious = less_if(ends, self.nprevious);
-        self.nkinds = less_if(ends, self.nkinds);
-        self.level = less_if(ends, self.level);
+        let fewer = usize::from(ends);
+        self.nspans = self.nspans.saturating_sub(fewer);
+        self.nprevious = self.nprevious.saturating_sub(fewer);
+        self.nkinds = self.nkinds.saturating_sub(fewer);
+        self.level = self.level.saturating_sub(fewer);
         self
     }
 
@@ -288,29 +239,29 @@ impl Indentation {
         let mut s = self.nspans;
         let mut p = self.nprevious;
         let mut level = self.level;
-        while is_top(n, kinds[less(n)]) {
-            n = less(n);
-            s = less(s);
-            p = less(p);
-            level = less(level);
+        // A `while`: three stacks go down together, and two of them may be at nought before it ends.
+        while 0 < n && kinds[n - 1] == TOP {
+            n -= 1;
+            s = s.saturating_sub(1);
+            p = p.saturating_sub(1);
+            level = level.saturating_sub(1);
             spans[s] = 0;
-            previous[p] = no_previous();
+            previous[p] = NO_PREVIOUS;
         }
-        let some = 0 < n;
-        let k = less(n);
+        let to = p.saturating_sub(usize::from(0 < n));
+        let k = n.saturating_sub(1);
         let kind = kinds[k];
-        let to = less_if(some, p);
         kinds[k] = 0;
-        previous[to] = no_previous();
+        previous[to] = NO_PREVIOUS;
         self.kinds = kinds;
         self.nkinds = k;
         self.spans = spans;
         self.nspans = s;
         self.previous = previous;
         self.nprevious = to;
-        self.level = less_if(kind == 1, level);
+        self.level = level.saturating_sub(usize::from(kind == BLOCK));
         Closed {
-            folded: kind == 2,
+            folded: kind == FOLDED_BLOCK,
             left: self,
         }
     }
@@ -320,7 +271,7 @@ impl Indentation {
         requires token_bound { token < 65535 }
         ensures { Stands (set_previous_reserved token (indentation_of self)) result }
     {
-        let at = less(self.nprevious);
+        let at = self.nprevious.saturating_sub(1);
         let mut previous = self.previous;
         let last = previous[at];
         previous[at] = reserved_after(last, token);
@@ -334,7 +285,7 @@ impl Indentation {
         requires token_bound { token < 65535 }
         ensures { Stands (set_previous_top_level token span (indentation_of self)) result }
     {
-        let at = less(self.nprevious);
+        let at = self.nprevious.saturating_sub(1);
         let mut previous = self.previous;
         let last = previous[at];
         let word = first_word(self.nprevious, last.word, token);
@@ -345,35 +296,32 @@ impl Indentation {
     }
 
     // The last previous words: those above none are none.
+    #[tactic(auto, using(crate::proofs::Laws::by_last))]
     pub fn previous_words(self) -> Previous
         requires { Clean self }
         ensures { result ≡ last_of self }
     {
-        let at = less(self.nprevious);
         let previous = self.previous;
-        previous[at]
+        previous[self.nprevious.saturating_sub(1)]
     }
 
-    pub fn previous_top_level_reserved(self) -> TopLevel
+    #[tactic(auto, using(crate::proofs::Laws::by_top_level))]
+    pub fn previous_top_level_reserved(self) -> Option<SpanInfo>
         requires { Clean self }
-        ensures { span_in result ≡ previous_top_level_reserved (indentation_of self) }
+        ensures { result ≡ previous_top_level_reserved (indentation_of self) }
     {
-        let last = self.previous_words();
-        last.top_level_reserved()
+        self.previous_words().top_level_reserved()
     }
 
+    #[tactic(auto, using(crate::proofs::Laws::by_span))]
     pub fn span(self) -> u32
         requires { Clean self }
         ensures { result ≡ span_of (indentation_of self) }
     {
-        let n = self.nspans;
-        if n == 0 {
-            return 0;
-        }
-        let spans = self.spans;
-        spans[n - 1]
+        self.spans[..self.nspans].last().copied().unwrap_or(0)
     }
 
+    #[tactic(auto, using(crate::proofs::Laws::by_full))]
     pub fn is_full(self) -> bool
         requires { Clean self }
         ensures { result ≡ full (indentation_of self).indent_types }
@@ -382,18 +330,18 @@ impl Indentation {
     }
 
     // The level that `increase_block_level` leads to: a handler has it before the arrays change.
+    #[tactic(auto, using(crate::proofs::Laws::by_room))]
     pub fn level_into(self, folded: bool) -> usize
         requires { Clean self }
         ensures { (result ≡ indent_level false (increase_block_level folded (indentation_of self))) × (result ≤ 128) }
     {
-        let counts = both(!folded, !self.is_full());
-        more_if(counts, self.level)
+        self.level + usize::from(!folded && !self.is_full())
     }
 
     pub fn indent_level(self, folded: bool) -> usize
         requires { Clean self }
         ensures { (result ≡ indent_level folded (indentation_of self)) × (result ≤ 128) }
     {
-        less_if(folded, self.level)
+        self.level.saturating_sub(usize::from(folded))
     }
 }

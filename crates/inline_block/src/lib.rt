@@ -6,9 +6,10 @@ ghost use mathlib.Core.List.{[], tail};
 ghost use Rattle.rules.specs.InlineBlock.{is_active, cur_len, begin_if_possible};
 ghost use Rattle.inline_block.specs.Of.{inline_block_of, Clean, Stands};
 
-use stacks::{chosen, less, more_if, within};
+use stacks::chosen;
 
 // The lengths of the open inline blocks, the innermost last; entries above the level are zero.
+// An operation takes the array out as a local of its own, and branches on numbers alone (crate stacks).
 #[derive(Clone, Copy)]
 pub struct InlineBlock {
     pub lengths: [u32; 128],
@@ -16,6 +17,7 @@ pub struct InlineBlock {
 }
 
 impl InlineBlock {
+    #[tactic(auto, using(crate::proofs::Laws::by_new))]
     pub fn new() -> Self
         ensures { Stands [] result }
     {
@@ -31,13 +33,12 @@ impl InlineBlock {
         requires level_bound { begins ≡ true → self.level < 128 }
         ensures { Stands (begin_if_possible begins length (inline_block_of self)) result }
     {
-        let n = self.level;
-        let at = within(n);
+        let at = self.level.min(127);
         let mut lengths = self.lengths;
         let old = lengths[at];
         lengths[at] = chosen(begins, length, old);
         self.lengths = lengths;
-        self.level = more_if(begins, n);
+        self.level += usize::from(begins);
         self
     }
 
@@ -45,7 +46,7 @@ impl InlineBlock {
         requires { Clean self }
         ensures { Stands (tail (inline_block_of self)) result }
     {
-        let at = less(self.level);
+        let at = self.level.saturating_sub(1);
         let mut lengths = self.lengths;
         lengths[at] = 0;
         self.lengths = lengths;
@@ -53,21 +54,18 @@ impl InlineBlock {
         self
     }
 
+    #[tactic(auto, using(crate::proofs::Laws::by_active))]
     pub fn is_active(self) -> bool
         ensures { result ≡ is_active (inline_block_of self) }
     {
         0 < self.level
     }
 
+    #[tactic(auto, using(crate::proofs::Laws::by_cur))]
     pub fn cur_len(self) -> u32
         requires { Clean self }
         ensures { result ≡ cur_len (inline_block_of self) }
     {
-        let n = self.level;
-        if n == 0 {
-            return 0;
-        }
-        let lengths = self.lengths;
-        lengths[n - 1]
+        self.lengths[..self.level].last().copied().unwrap_or(0)
     }
 }

@@ -1,11 +1,10 @@
 -- Laws of what is due of a token. Assumes nothing.
 use mathlib.Core.Path.{◌≡◌, refl, sym, ap, ◌∙◌}
-use mathlib.Core.Bool.{Bool, true, false, ◌&&◌}
+use mathlib.Core.Bool.{Bool, true, false}
 use mathlib.Core.List.{List, [], ◌∷◌}
-use Prim.Native.Nat.{ℕ, ◌+◌, ◌≤◌}
+use Prim.Native.Nat.{ℕ}
 use native.Mathlib.Numerals.{add-one}
 use native.Mathlib.Omega.{arith}
-use lib.ListN.{length, drop}
 use Rattle.rules.specs.declared.Place.{Place}
 use Rattle.rules.specs.declared.Counts.{Counts}
 use Rattle.rules.specs.declared.Case.{Case}
@@ -25,23 +24,19 @@ use Rattle.rules.specs.Params.{get, advances}
 use Rattle.rules.specs.Rows.{lays_out}
 use Rattle.rules.specs.Room.{counter_after}
 use Rattle.rules.specs.Formatter.{format_reserved_word}
-use Rattle.rules.specs.Due.{strip, Role, blank, comment, placeholder, reserved, other, role_of}
-use Rattle.tokens.specs.Placed.{Inside}
+use Rattle.rules.specs.Due.{Role, blank, comment, placeholder, reserved, other, role_of}
 use Rattle.records.specs.Sheeted.{Sheeted}
 use Rattle.params.specs.declared.Shown.{Shown}
-use Rattle.params.specs.Entries.{shown_of}
+use Rattle.params.specs.Entries.{TokenIn, shown_of}
 use Rattle.params.proofs.Shows.{shown-bytes, shown-inside, shown-index}
 use Rattle.keeps.specs.CaseOf.{case_of}
 use Rattle.keeps.proofs.CaseOf.{rules-case}
-use Rattle.ascii.specs.Part.{part}
-use Rattle.matching.specs.declared.Reached.{Reached}
-use Rattle.matching.specs.Read.{read_to, reached_of}
 use Rattle.foreign.specs.Walk.{shown_on, shown_as}
 use Rattle.judge.specs.declared.Form.{Form}
 use Rattle.judge.specs.declared.Due.{Due}
-use Rattle.judge.specs.Asked.{form_of, TokenIn, DueIn}
+use Rattle.judge.specs.Asked.{form_of, DueIn}
 
-as_is : (v : List ℕ) → in_case case.AsIs v ≡ v
+pub as_is : (v : List ℕ) → in_case case.AsIs v ≡ v
 as_is [] = refl
 as_is (x ∷ v) = ap (λ (w : List ℕ). x ∷ w) (as_is v)
 
@@ -98,21 +93,6 @@ module _ (s : List ℕ) (c : Counts) (t : declared.Token) (i : ℕ) where
       → DueIn s c u t i (record { place = t.value; casing = k; index = i })
   own-due u k shown count within = record { bytes = shown; place_in = within.value_in; counter = sym count }
 
-  -- ---- as it is taken
-
-  module _ (within : TokenIn s c t) (u : Turn) where
-    pub due-dropped : u ≡ turn.Dropped → (r : Due) → r ≡ record { place = record { start = 0; len = 0 }; casing = case.AsIs; index = i } → DueIn s c u t i r
-    unfolding shown_as counter_after lays_out when
-    due-dropped e r h = rw (h, e) (none-due turn.Dropped refl refl within.sheeted)
-
-    pub due-switch : (off : Bool) → u ≡ turn.Switches off → (r : Due) → r ≡ record { place = record { start = 0; len = 0 }; casing = case.AsIs; index = i } → DueIn s c u t i r
-    unfolding shown_as counter_after lays_out when
-    due-switch off e r h = rw (h, e) (none-due (turn.Switches off) refl refl within.sheeted)
-
-    pub due-copied : u ≡ turn.Copied → (v : Place) → v ≡ t.value → DueIn s c u t i (record { place = v; casing = case.AsIs; index = i })
-    unfolding shown_as counter_after lays_out when
-    due-copied e v h = rw (h, e) (own-due turn.Copied case.AsIs (as_is (body_part s (body_at c) t.value)) refl within)
-
   -- ---- laid out
 
   module _ (within : TokenIn s c t) (f : Form) (h : f ≡ form_of (role_of t.kind)) where
@@ -146,20 +126,3 @@ module _ (s : List ℕ) (c : Counts) (t : declared.Token) (i : ℕ) where
           place_in = shown-inside s c t i r g within.sheeted within.value_in;
           counter = rw p (shown-index s c t i r g ∙ ap (λ (n : ℕ). if advances (params_of s c) (key_read s (body_at c) t.key) then n else i) (add-one i));
         }
-
--- ---- its bytes, read from the start of the sheet
-
-module _ (s : List ℕ) (c : Counts) (p : Place) (base a n : ℕ) (eb : base ≡ body_at c) (ea : a ≡ p.start) (en : n ≡ p.len) where
-  pub place_read : (k : Case) (text : List ℕ) (from : ℕ) (r : Reached) → r ≡ reached_of (read_to (strip (in_case k (part s (base + a) n))) from (drop from text))
-      → r ≡ reached_of (read_to (strip (in_case k (body_part s (body_at c) p))) from (drop from text))
-  unfolding body_part
-  place_read k text from r h = rw (eb, ea, en) at h
-
--- ---- refusal 5
-
-module _ (l o b : Bool) (h : b ≡ l) where
-  pub barred-by : b ≡ true → (r : Bool) → r ≡ o → r ≡ (l && o)
-  barred-by e r g = rw (← h, e) g
-
-  pub not-barred : b ≡ false → false ≡ (l && o)
-  not-barred e = rw (← h, e)

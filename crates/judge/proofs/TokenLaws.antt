@@ -1,7 +1,7 @@
 -- Laws of the two passes over the tokens. Assumes nothing.
 use mathlib.Core.Path.{◌≡◌, sym, ap, ◌∙◌}
 use mathlib.Core.Bool.{Bool, true, false, ◌&&◌}
-use mathlib.Core.Option.{Option, none, some}
+use Rattle.std.specs.Prelude.{Option, None, Some, if◌then◌else◌}
 use mathlib.Core.List.{List, []}
 use Prim.Native.Nat.{ℕ, ◌+◌, ◌-◌, ◌≤◌, ◌<◌}
 use native.Mathlib.Nat.{sub-zero}
@@ -9,70 +9,51 @@ use native.Mathlib.Numerals.{add-one}
 use native.Mathlib.Omega.{arith}
 use lib.ListN.{length, drop}
 use Rattle.rules.specs.declared.Counts.{Counts}
-use Rattle.rules.specs.declared.Offence.TheVariants.{At, Nowhere}
 use Rattle.rules.specs.declared.Token.{Token}
 use Rattle.rules.specs.declared.Turn.{Turn}
 use Rattle.rules.specs.Base.{same}
-use Rattle.std.specs.Prelude.{if◌then◌else◌}
 use Rattle.rules.specs.Text.{in_case}
 use Rattle.rules.specs.Words.{token_at, body_at}
-use Rattle.rules.specs.Sheet.{body_part, key_read, token_read, token_of, tokens_from, options_of, params_of, keeps_of, env_of, tokens_of}
+use Rattle.rules.specs.Sheet.{body_part, token_read, token_of, tokens_from, options_of, params_of, keeps_of, env_of, tokens_of}
 use Rattle.rules.specs.Switch.{Switch, turn_of, switch_after, switched_on}
 use Rattle.rules.specs.Params.{advances, offends}
 use Rattle.rules.specs.Rows.{lays_out}
 use Rattle.rules.specs.Room.{counter_after}
 use Rattle.rules.specs.Due.{strip}
-use Rattle.records.specs.Sheeted.{Sheeted}
-use Rattle.places.proofs.Laws.{list-next, list-end}
-use Rattle.params.proofs.Shows.{key_in, value_in}
+use Rattle.places.proofs.Laws.{list_next, list_end}
 use Rattle.switched.proofs.Count.{when-most}
-use Rattle.matching.specs.declared.Reached.{Reached}
-use Rattle.matching.specs.Read.{read_to, reached_of}
-use Rattle.matching.proofs.Laws.{reached-all, reached-left}
+use Rattle.matching.specs.Read.{read_to}
+use Rattle.matching.proofs.Laws.{reached-some, reached-none}
 use Rattle.foreign.specs.declared.Verdict.{Verdict}
 use Rattle.foreign.specs.Foreign.{begins, compared}
 use Rattle.foreign.specs.Walk.{barred_from, walk}
 use Rattle.foreign.proofs.Walk.{walk_is}
 use Rattle.judge.specs.declared.Due.{Due}
-use Rattle.judge.specs.Asked.{offence_at, TokenIn, DueIn}
-
-pub token-in : (s : List ℕ) (c : Counts) (i : ℕ) → Sheeted s c → i < c.tokens → (t : Token) → t ≡ token_at s i → TokenIn s c t
-token-in s c i h l t e = record { sheeted = h; key_in = key_in s c t i h l e; value_in = value_in s c t i h l e }
+use Rattle.judge.specs.Asked.{DueIn}
 
 -- ---- refusal 5
 
 module _ (s : List ℕ) (c : Counts) where
-  abbrev barred_at : ℕ → Switch → Option ℕ
+  -- the first that is barred from token i on
+  abbrev pub barred_at : ℕ → Switch → Option ℕ
   barred_at i w = barred_from (params_of s c) w i (tokens_from s (body_at c) i (c.tokens - i))
 
-  abbrev barred_all : Option ℕ
-  barred_all = barred_from (params_of s c) switched_on 0 (tokens_of s c)
-
-  -- none before token i is barred
-  pub record Barring (i : ℕ) (w : Switch) : Type 0 where
-    pub within : i ≤ c.tokens
-    pub left : barred_at i w ≡ barred_all
-
-  pub barring-begins : (w : Switch) → w ≡ switched_on → Barring 0 w
+  pub barred_all : barred_from (params_of s c) switched_on 0 (tokens_of s c) ≡ barred_at 0 switched_on
   unfolding tokens_of
-  barring-begins w e = record { within = omega arith; left = rw (e, sub-zero c.tokens) }
+  barred_all = rw sub-zero
 
-  module _ (i : ℕ) (w : Switch) (inv : Barring i w) where
-    pub barring-done : c.tokens ≤ i → Nowhere ≡ offence_at barred_all
+  module _ (i : ℕ) (w : Switch) where
+    pub none_barred : c.tokens ≤ i → barred_at i w ≡ None
     unfolding barred_from
-    barring-done l = rw (← inv.left, list-end (token_of s (body_at c)) i c.tokens l)
+    none_barred l = rw (list_end (token_of s (body_at c)) i c.tokens l)
 
-    module _ (l : i < c.tokens) (base : ℕ) (eb : base ≡ body_at c) (t : Token) (et : t ≡ token_at s i) (u : Turn) (eu : u ≡ turn_of w (token_of s base i).kind (token_of s base i).value)
-        (b : Bool) (h : b ≡ (lays_out u t.kind && offends (params_of s c) (key_read s (body_at c) t.key))) where
-      next : barred_all ≡ (if b then some i else barred_at (i + 1) (switch_after u w))
-      unfolding barred_from
-      next = sym inv.left ∙ rw (list-next (token_of s (body_at c)) i c.tokens l, h, eu, et, eb, add-one)
+    pub barred_turn : i < c.tokens → barred_at i w
+        ≡ (if lays_out (turn_of w (token_of s (body_at c) i).kind (token_of s (body_at c) i).value) (token_of s (body_at c) i).kind && offends (params_of s c) (token_of s (body_at c) i).key then Some i
+        else barred_at (i + 1) (switch_after (turn_of w (token_of s (body_at c) i).kind (token_of s (body_at c) i).value) w))
+    unfolding barred_from
+    barred_turn l = rw (list_next (token_of s (body_at c)) i c.tokens l, add-one)
 
-      pub barring-found : b ≡ true → At i ≡ offence_at barred_all
-      barring-found e = rw (next, e)
-
-      pub barring-on : b ≡ false → (x : Switch) → x ≡ switch_after u w → Barring (i + 1) x
-      barring-on e x ex = record { within = omega arith; left = rw ex (sym (rw e at next)) }
+pub ruleset barring = (barred_all, none_barred, barred_turn)
 
 -- ---- the comparison
 
@@ -97,7 +78,7 @@ module _ (s : List ℕ) (c : Counts) (text : List ℕ) where
   module _ (at index i : ℕ) (w : Switch) (inv : Walking at index i w) where
     ended : c.tokens ≤ i → whole ≡ (if same [] (strip (drop at text)) then Verdict.Yes else Verdict.No i)
     unfolding walk
-    ended l = sym inv.left ∙ rw (list-end (token_of s (body_at c)) i c.tokens l)
+    ended l = sym inv.left ∙ rw (list_end (token_of s (body_at c)) i c.tokens l)
 
     module _ (l : c.tokens ≤ i) (b : Bool) (h : b ≡ same [] (strip (drop at text))) where
       pub walking_yes : b ≡ true → Verdict.Yes ≡ whole
@@ -107,27 +88,29 @@ module _ (s : List ℕ) (c : Counts) (text : List ℕ) where
       walking_more e n en = rw (ended l, ← h, e) (ap (λ (m : ℕ). Verdict.No m) (let k = inv.within in omega arith))
 
     module _ (l : i < c.tokens) (base : ℕ) (eb : base ≡ body_at c) (t : Token) (et : t ≡ token_at s i) (u : Turn) (eu : u ≡ turn_of w (token_of s base i).kind (token_of s base i).value)
-        (d : Due) (is-due : DueIn s c u t index d) (r : Reached) (er : r ≡ reached_of (read_to (strip (in_case d.casing (body_part s (body_at c) d.place))) at (drop at text))) where
+        (d : Due) (is-due : DueIn s c u t index d) (r : Option ℕ) (er : r ≡ read_to (strip (in_case d.casing (body_part s (body_at c) d.place))) at (drop at text)) where
       abbrev shown : List ℕ
       shown = strip (in_case d.casing (body_part s (body_at c) d.place))
 
       onward : whole ≡ (if begins shown (strip (drop at text)) then walk (env_of s c 0) (switch_after u w) d.index (i + 1) (tokens_from s (body_at c) (i + 1) (c.tokens - (i + 1))) (drop (length shown) (strip (drop at text))) else Verdict.No i)
       unfolding walk env_of
-      onward = sym inv.left ∙ rw (list-next (token_of s (body_at c)) i c.tokens l, is-due.bytes, is-due.counter, eu, et, eb, add-one)
+      onward = sym inv.left ∙ rw (list_next (token_of s (body_at c)) i c.tokens l, is-due.bytes, is-due.counter, eu, et, eb, add-one)
 
-      pub walking_no : r.all ≡ false → Verdict.No i ≡ whole
-      walking_no e = rw (onward, ← reached-all shown text at inv.at_in r er, e)
+      pub walking_no : r ≡ None → Verdict.No i ≡ whole
+      walking_no e = rw (onward, reached-none shown text at inv.at_in r er e)
 
-      pub walking_on : r.all ≡ true → (x : Switch) → x ≡ switch_after u w → Walking r.at d.index (i + 1) x
+      pub walking_on : (end : ℕ) → r ≡ Some end → (x : Switch) → x ≡ switch_after u w → Walking end d.index (i + 1) x
       unfolding counter_after
-      walking_on e x ex =
+      walking_on end e x ex =
           let f = inv.few in
           let k = is-due.counter in
           let m = when-most (lays_out u t.kind && advances (params_of s c) (token_read s (body_at c) t).key) index in
-          let past = reached-left shown text at inv.at_in r er e in
+          let past = reached-some shown text at inv.at_in r er end e in
           record {
             few = omega arith;
             within = omega arith;
-            at_in = past.1;
-            left = rw (ex, past.0) (sym (rw (← reached-all shown text at inv.at_in r er, e) at onward));
+            at_in = past.1.1;
+            left = rw (ex, past.1.0) (sym (rw past.0 at onward));
           }
+
+pub ruleset walking = (walking_begins, walking_yes, walking_more)

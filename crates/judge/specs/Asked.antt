@@ -1,19 +1,14 @@
 -- What is asked of a token, and what is due of it.
 use Rattle.std.specs.Prelude.{◌≡◌, List, ℕ}
-use Rattle.std.proofs.Math.Option.{Option, none, some}
 use Rattle.rules.specs.declared.Token.{Token}
 use Rattle.rules.specs.declared.Turn.{Turn}
 use Rattle.rules.specs.declared.Counts.{Counts}
-use Rattle.rules.specs.declared.Offence.{Offence}
-use Rattle.rules.specs.declared.Offence.TheVariants.{At, Nowhere}
 use Rattle.rules.specs.Text.{in_case}
 use Rattle.rules.specs.Words.{body_at}
 use Rattle.rules.specs.Sheet.{body_part, token_read, params_of, env_of}
 use Rattle.rules.specs.Room.{counter_after}
 use Rattle.rules.specs.Due.{Role, blank, comment, placeholder, reserved, other}
 use Rattle.tokens.specs.Placed.{Inside}
-use Rattle.records.specs.Sheeted.{Sheeted}
-use Rattle.params.specs.Entries.{KeyIn}
 use Rattle.foreign.specs.Walk.{shown_as}
 use Rattle.judge.specs.declared.Form.{Form}
 use Rattle.judge.specs.declared.Due.{Due}
@@ -24,16 +19,6 @@ form_of comment = Form.Own
 form_of placeholder = Form.Filled
 form_of reserved = Form.Cased
 form_of other = Form.Own
-
-abbrev pub offence_at : Option ℕ → Offence
-offence_at none = Nowhere
-offence_at (some i) = At i
-
--- a token of a checked sheet, its places in the bodies
-pub record TokenIn (s : List ℕ) (c : Counts) (t : Token) : Type 0 where
-  pub sheeted : Sheeted s c
-  pub key_in : KeyIn s (body_at c) t.key
-  pub value_in : Inside s (body_at c) t.value
 
 -- r is what is due of it, taken so, i being the counter
 pub record DueIn (s : List ℕ) (c : Counts) (u : Turn) (t : Token) (i : ℕ) (r : Due) : Type 0 where

@@ -13,24 +13,25 @@ ghost use Rattle.rules.specs.Switch.{switched_on};
 ghost use Rattle.rules.specs.Due.{strip, role_of};
 ghost use Rattle.tokens.specs.Placed.{Inside};
 ghost use Rattle.records.specs.Sheeted.{Sheeted};
-ghost use Rattle.matching.specs.Read.{read_to, reached_of};
+ghost use Rattle.matching.specs.Read.{read_to};
 ghost use Rattle.foreign.specs.Foreign.{compared, judge_tokens, judge as verdict_of, judged_of};
 ghost use Rattle.foreign.specs.Walk.{barred_from};
 ghost use Rattle.judge.specs.declared.Form.TheVariants as form;
-ghost use Rattle.judge.specs.Asked.{form_of, offence_at, TokenIn, DueIn};
+ghost use Rattle.params.specs.Entries.{TokenIn};
+ghost use Rattle.judge.specs.Asked.{form_of, DueIn};
 
 use fmt_switch::Switch;
-use foreign::{Judged, Verdict};
+use foreign::{Judged, Refusal, Verdict};
 use keeps::case_for;
-use matching::{Reached, low_bytes, only_white, reach};
+use matching::{first_high, only_white, reach};
 use params::{get, offends};
 use records::{body_at, options_of};
-use rules::{Case, Checked, Counts, Offence, Place, Token, TokenKind, Turn};
+use rules::{Case, Counts, Place, Token, TokenKind, Turn};
 use switched::{lays_out, turn_at};
 use tokens::{to_usize, token_at};
 
 // How a token is shown while the switch is on.
-#[derive(Drop)]
+#[derive(Clone, Copy, PartialEq, Eq)]
 pub enum Form {
     Nothing,
     Own,
@@ -52,58 +53,45 @@ fn is_barred(sheet: &[u8], c: Counts, turn: Turn, t: Token) -> bool
     requires { 48 ≤ length sheet.now }
     ensures { result ≡ (lays_out turn t.kind && offends_by (params_of sheet.now c) (key_read sheet.now (body_at c) t.key)) }
 {
-    let kind = t.kind;
-    if lays_out(turn, kind) {
-        return offends(sheet, t);
-    }
-    false
+    lays_out(turn, t.kind) && offends(sheet, t)
 }
 
 // The first placeholder laid out whose number counts from one and is nought.
-fn first_barred(sheet: &[u8], c: Counts) -> Offence
+#[tactic(auto, using(crate::proofs::TokenLaws::barring))]
+fn first_barred(sheet: &[u8], c: Counts) -> Option<usize>
     requires { Sheeted sheet.now c }
-    ensures { result ≡ offence_at (barred_from (params_of sheet.now c) switched_on 0 (tokens_of sheet.now c)) }
+    ensures { result ≡ barred_from (params_of sheet.now c) switched_on 0 (tokens_of sheet.now c) }
 {
     let base = body_at(c);
-    let n = c.tokens;
     let mut switch = Switch::new();
-    let mut i: usize = 0;
-    while i < n {
+    for i in 0..c.tokens {
         let t = token_at(sheet, i);
-        let kind = t.kind;
-        let turn = turn_at(sheet, base, i, switch, kind);
+        let turn = turn_at(sheet, base, i, switch, t.kind);
         if is_barred(sheet, c, turn, t) {
-            return Offence::At(i);
+            return Some(i);
         }
         switch = switch.after(turn);
-        i += 1;
     }
-    Offence::Nowhere
+    None
 }
 
 // ---- what is due of a token
 
+#[tactic(auto, unfolding(rules::specs::Due::role_of))]
 fn form_of(kind: TokenKind) -> Form
     ensures { result ≡ form_of (role_of kind) }
 {
     match kind {
-        TokenKind::TypeSpecifier => Form::Own,
         TokenKind::Whitespace => Form::Nothing,
-        TokenKind::String => Form::Own,
-        TokenKind::Reserved => Form::Cased,
-        TokenKind::ReservedTopLevel => Form::Cased,
-        TokenKind::ReservedTopLevelNoIndent => Form::Cased,
-        TokenKind::ReservedNewline => Form::Cased,
-        TokenKind::ReservedNewlineAfter => Form::Cased,
-        TokenKind::Operator => Form::Own,
-        TokenKind::OpenParen => Form::Cased,
-        TokenKind::CloseParen => Form::Cased,
-        TokenKind::LineComment => Form::Own,
-        TokenKind::BlockComment => Form::Own,
-        TokenKind::Number => Form::Own,
+        TokenKind::Reserved
+        | TokenKind::ReservedTopLevel
+        | TokenKind::ReservedTopLevelNoIndent
+        | TokenKind::ReservedNewline
+        | TokenKind::ReservedNewlineAfter
+        | TokenKind::OpenParen
+        | TokenKind::CloseParen => Form::Cased,
         TokenKind::Placeholder => Form::Filled,
-        TokenKind::Word => Form::Own,
-        TokenKind::Join => Form::Own,
+        _ => Form::Own,
     }
 }
 
@@ -122,9 +110,8 @@ fn filled(sheet: &[u8], c: Counts, t: Token, index: u32) -> Due
     ensures { DueIn sheet.now c taken.LaidOut t index result }
 {
     let shown = get(sheet, c, t, index);
-    let place = shown.place;
     Due {
-        place,
+        place: shown.place,
         casing: Case::AsIs,
         index: shown.index,
     }
@@ -135,10 +122,8 @@ fn due_on(sheet: &[u8], c: Counts, casing: Case, t: Token, index: u32) -> Due
     requires { (TokenIn sheet.now c t) × (casing ≡ (options_of sheet.now).casing) × (index < 4294967295) }
     ensures { DueIn sheet.now c taken.LaidOut t index result }
 {
-    let kind = t.kind;
     let place = t.value;
-    let form = form_of(kind);
-    match form {
+    match form_of(t.kind) {
         Form::Nothing => nothing(index),
         Form::Own => Due {
             place,
@@ -155,17 +140,16 @@ fn due_on(sheet: &[u8], c: Counts, casing: Case, t: Token, index: u32) -> Due
 }
 
 // A token, as it is taken.
+#[tactic(auto, using(crate::proofs::DueLaws::as_is), unfolding(foreign::specs::Walk::shown_as, rules::specs::Sheet::body_part, rules::specs::Room::counter_after, rules::specs::Rows::lays_out, rules::specs::Base::when))]
 fn due_of(sheet: &[u8], c: Counts, casing: Case, turn: Turn, t: Token, index: u32) -> Due
     requires { (TokenIn sheet.now c t) × (casing ≡ (options_of sheet.now).casing) × (index < 4294967295) }
     ensures { DueIn sheet.now c turn t index result }
 {
-    let place = t.value;
     match turn {
-        Turn::Dropped => nothing(index),
-        Turn::Switches(_) => nothing(index),
+        Turn::Dropped | Turn::Switches(_) => nothing(index),
         Turn::LaidOut => due_on(sheet, c, casing, t, index),
         Turn::Copied => Due {
-            place,
+            place: t.value,
             casing: Case::AsIs,
             index,
         },
@@ -174,131 +158,71 @@ fn due_of(sheet: &[u8], c: Counts, casing: Case, turn: Turn, t: Token, index: u3
 
 // ---- the text
 
-fn reach_due(sheet: &[u8], c: Counts, due: Due, text: &[u8], from: usize) -> Reached
+#[tactic(auto, unfolding(rules::specs::Sheet::body_part))]
+fn reach_due(sheet: &[u8], c: Counts, due: Due, text: &[u8], from: usize) -> Option<usize>
     requires { (Sheeted sheet.now c) × (Inside sheet.now (body_at c) due.place) × (from ≤ length text.now) }
-    ensures { result ≡ reached_of (read_to (strip (in_case due.casing (body_part sheet.now (body_at c) due.place))) from (drop from text.now)) }
+    ensures { result ≡ read_to (strip (in_case due.casing (body_part sheet.now (body_at c) due.place))) from (drop from text.now) }
 {
-    let place = due.place;
-    let casing = due.casing;
-    reach(
-        sheet,
-        body_at(c) + to_usize(place.start),
-        to_usize(place.len),
-        casing,
-        text,
-        from,
-    )
+    let start = body_at(c) + to_usize(due.place.start);
+    let n = to_usize(due.place.len);
+    reach(sheet, start, n, due.casing, text, from)
 }
 
+#[tactic(auto, using(crate::proofs::TokenLaws::walking))]
 fn compare(sheet: &[u8], c: Counts, text: &[u8]) -> Verdict
     requires { Sheeted sheet.now c }
     ensures { result ≡ compared (params_of sheet.now c) (keeps_of sheet.now c) (options_of sheet.now).casing (tokens_of sheet.now c) text.now }
 {
     let base = body_at(c);
-    let n = c.tokens;
-    let o = options_of(sheet);
-    let casing = o.casing;
+    let casing = options_of(sheet).casing;
     let mut at: usize = 0;
     let mut index: u32 = 0;
     let mut switch = Switch::new();
-    let mut i: usize = 0;
-    while i < n {
+    for i in 0..c.tokens {
         let t = token_at(sheet, i);
-        let kind = t.kind;
-        let turn = turn_at(sheet, base, i, switch, kind);
+        let turn = turn_at(sheet, base, i, switch, t.kind);
         let due = due_of(sheet, c, casing, turn, t, index);
-        let one = reach_due(sheet, c, due, text, at);
-        if !one.all {
+        let Some(end) = reach_due(sheet, c, due, text, at) else {
             return Verdict::No(i);
-        }
-        at = one.at;
+        };
+        at = end;
         index = due.index;
         switch = switch.after(turn);
-        i += 1;
     }
     if only_white(text, at) {
         return Verdict::Yes;
     }
-    Verdict::No(n)
+    Verdict::No(c.tokens)
 }
 
 // ---- the whole
 
 // A sheet that checks 1 to 4 found sound.
-fn judge_sound(sheet: &[u8], c: Counts, text: &[u8]) -> Verdict
+#[tactic(auto, using(crate::proofs::CallLaws::barred_is), unfolding(foreign::specs::Foreign::judge_tokens, foreign::specs::Foreign::unless_at))]
+fn judge_sound(sheet: &[u8], c: Counts, text: &[u8]) -> Result<Verdict, Refusal>
     requires { Sheeted sheet.now c }
     ensures { result ≡ judge_tokens (params_of sheet.now c) (keeps_of sheet.now c) (options_of sheet.now).casing (tokens_of sheet.now c) text.now }
 {
-    let barred = first_barred(sheet, c);
-    if let Offence::At(i) = barred {
-        return Verdict::Refused {
-            number: 5,
-            place: i,
-        };
+    if let Some(i) = first_barred(sheet, c) {
+        return Err(Refusal::Number(i));
     }
-    let low = low_bytes(text);
-    if low < text.len() {
-        return Verdict::Refused {
-            number: 15,
-            place: low,
-        };
+    if let Some(at) = first_high(text) {
+        return Err(Refusal::High(at));
     }
-    compare(sheet, c, text)
+    Ok(compare(sheet, c, text))
 }
 
-fn verdict(sheet: &[u8], text: &[u8]) -> Verdict
+#[tactic(auto, using(crate::proofs::CallLaws::sound), unfolding(foreign::specs::Foreign::judge, foreign::specs::Foreign::judge_as))]
+fn verdict(sheet: &[u8], text: &[u8]) -> Result<Verdict, Refusal>
     ensures { result ≡ verdict_of sheet.now text.now }
 {
-    let found = checks::check(sheet);
-    match found {
-        Checked::Sound(c) => judge_sound(sheet, c, text),
-        Checked::Size => Verdict::Refused {
-            number: 1,
-            place: 0,
-        },
-        Checked::Word(p) => Verdict::Refused {
-            number: 2,
-            place: p,
-        },
-        Checked::Place(p) => Verdict::Refused {
-            number: 3,
-            place: p,
-        },
-        Checked::Byte(p) => Verdict::Refused {
-            number: 4,
-            place: p,
-        },
-    }
-}
-
-fn in_numbers(v: Verdict) -> Judged
-    ensures { result ≡ judged_of v }
-{
-    match v {
-        Verdict::Yes => Judged {
-            refusal: 0,
-            place: 0,
-            matches: 1,
-            token: 0,
-        },
-        Verdict::No(i) => Judged {
-            refusal: 0,
-            place: 0,
-            matches: 0,
-            token: i as u64,
-        },
-        Verdict::Refused { number, place } => Judged {
-            refusal: number,
-            place: place as u64,
-            matches: 0,
-            token: 0,
-        },
-    }
+    let c = checks::check(sheet)?;
+    judge_sound(sheet, c, text)
 }
 
 // Of any bytes.
 pub fn judge(sheet: &[u8], text: &[u8]) -> Judged
     ensures { result ≡ judged_of (verdict_of sheet.now text.now) }
 {
-    in_numbers(verdict(sheet, text))
+    Judged::from(verdict(sheet, text))
 }

@@ -13,32 +13,29 @@ use places::same_places;
 use records::{body_at, keep_at};
 use rules::{Case, Counts, Place};
 
+#[tactic(auto, using(crate::proofs::Laws::kept))]
 pub fn is_keep(sheet: &[u8], c: Counts, p: Place) -> bool
     requires { (Sheeted sheet.now c) × (Inside sheet.now (body_at c) p) }
     ensures { result ≡ any_of (same (body_part sheet.now (body_at c) p)) (keeps_of sheet.now c) }
 {
     let base = body_at(c);
-    let k = c.keeps;
-    let mut i = 0;
-    while i < k {
+    for i in 0..c.keeps {
         if same_places(sheet, base, p, keep_at(sheet, c, i)) {
             return true;
         }
-        i += 1;
     }
     false
 }
 
+#[tactic(auto, unfolding(crate::specs::CaseOf::case_of))]
 pub fn case_for(sheet: &[u8], c: Counts, casing: Case, p: Place) -> Case
     requires { (Sheeted sheet.now c) × (Inside sheet.now (body_at c) p) }
     ensures { result ≡ case_of sheet.now c casing (body_part sheet.now (body_at c) p) }
 {
     // The answer is AsIs either way: no keep word is read.
-    if let Case::AsIs = casing {
-        return Case::AsIs;
+    if casing == Case::AsIs || is_keep(sheet, c, p) {
+        Case::AsIs
+    } else {
+        casing
     }
-    if is_keep(sheet, c, p) {
-        return Case::AsIs;
-    }
-    casing
 }

@@ -19,9 +19,11 @@ use Rattle.columns.proofs.MeasureLaws.{measure-most}
 use Rattle.columns.proofs.HeadLaws.{head_at, after, Split, split, head-far, head-above, head-most, best_most, on_line}
 use Rattle.steps.specs.Steps.{codes_of, Mapped, Coded, rows}
 use Rattle.steps.proofs.StepLaws.{rows-part}
-use Rattle.lanes.specs.declared.Lane.{Lane}
-use Rattle.lanes.specs.Lanes.{Over, lane_on, fresh, Laned, Ready, OnSixteen}
-use Rattle.lanes.proofs.LaneLaws.{lane, lane-codes}
+use Rattle.narrow.specs.declared.Lane.{Lane}
+use Rattle.narrow.specs.Narrow.{lane_on, fresh, lane_at, Laned}
+use Rattle.narrow.proofs.NarrowLaws.{lane-feeds}
+use Rattle.lanes.specs.Lanes.{Over, Ready, OnSixteen}
+use Rattle.lanes.proofs.LaneLaws.{counted, lane-count}
 
 -- ---- the first line, and what follows
 
@@ -149,24 +151,24 @@ all-bits : (x : ℕ) → x < 2 ^ 16 → bit_and x 65535 ≡ x
 all-bits x h = and_mask x 16 ∙ mod-eq_of_lt h
 
 -- the way of a block: the codes, the phases, and sixteen steps
-module _ (d t u at c₀ h₀ n₀ c c' h' n' : List ℕ) (start far : ℕ) (s : Coded d start far t) (v : Coded d (start + 8) far u) (room : start + 15 * far + 16 ≤ length d) (p : Mapped 16 (λ k a. get_or at k 0 % 8 + 120) c₀ c)
-    (on : Laned t u 16 c h₀ n₀ c' h' n') where
+module _ (d t u at c₀ c g n c' h' g' n' : List ℕ) (start far : ℕ) (s : Coded d start far t) (v : Coded d (start + 8) far u) (room : start + 15 * far + 16 ≤ length d) (p : Mapped 16 (λ k a. get_or at k 0 % 8 + 120) c₀ c)
+    (on : Laned t u 16 c c g n c' h' g' n') where
   module _ (k : ℕ) (l : k < 16) where
     long : length (part d (start + k * far) 16) ≡ 16
     long = let m : k * far ≤ 15 * far = mul-le-mul_right far (omega arith) in length_part d (start + k * far) 16 (omega arith)
 
-    all-steps : lane (get_or c' k 0) (get_or h' k 0) (get_or n' k 0)
-        ≡ lane (measure (count (get_or at k 0 % 8 + 120) (get_or at k 0 % 8 + 120)) (part d (start + k * far) 16)).at (measure (count (get_or at k 0 % 8 + 120) (get_or at k 0 % 8 + 120)) (part d (start + k * far) 16)).best (0 + line_feeds (part d (start + k * far) 16))
-    all-steps =
-        let n = long in
-        let q : lane_on (fresh (get_or c k 0)) (rows t u k) ≡ lane_on (fresh (get_or at k 0 % 8 + 120)) (codes_of (part d (start + k * far) 16)) = ap (lane_on (fresh (get_or c k 0))) (rows-part d t u start far k s v l room) ∙ ap (λ (z : ℕ). lane_on (fresh z) (codes_of (part d (start + k * far) 16))) (p.new k l) in
-        rw (on.columns.new k l, on.largest.new k l, on.feeds.new k l) (q ∙ lane-codes (get_or at k 0 % 8 + 120) (get_or at k 0 % 8 + 120) 0 (part d (start + k * far) 16) (omega arith))
+    all-steps : lane_on (lane_at c c g k) (rows t u k) ≡ lane_on (fresh (get_or at k 0 % 8 + 120) (get_or at k 0 % 8 + 120) (get_or g k 0)) (codes_of (part d (start + k * far) 16))
+    all-steps = ap (lane_on (lane_at c c g k)) (rows-part d t u start far k s v l room) ∙ ap (λ (z : ℕ). lane_on (fresh z z (get_or g k 0)) (codes_of (part d (start + k * far) 16))) (p.new k l)
 
     stepped : count (get_or c' k 0) (get_or h' k 0) ≡ measure (count (get_or at k 0 % 8 + 120) (get_or at k 0 % 8 + 120)) (part d (start + k * far) 16)
-    stepped = ap (λ (m : Lane). count m.at m.top) all-steps
+    stepped =
+        let n = long in
+        rw (on.columns.new k l, on.largest.new k l) (ap counted all-steps ∙ lane-count (fresh (get_or at k 0 % 8 + 120) (get_or at k 0 % 8 + 120) (get_or g k 0)) (part d (start + k * far) 16) (omega arith))
 
     fed : get_or n' k 0 ≡ line_feeds (part d (start + k * far) 16)
-    fed = let e : get_or n' k 0 ≡ 0 + line_feeds (part d (start + k * far) 16) = ap (λ (m : Lane). m.feeds) all-steps in omega (arith, e)
+    fed =
+        let e = lane-feeds (fresh (get_or at k 0 % 8 + 120) (get_or at k 0 % 8 + 120) (get_or g k 0)) (part d (start + k * far) 16) in
+        on.feeds.new k l ∙ ap (λ (m : Lane). m.feeds) all-steps ∙ e ∙ (omega arith)
 
   pub over : Over h'
   over =

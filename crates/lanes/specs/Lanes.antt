@@ -1,29 +1,14 @@
 -- Sixteen lanes: the columns of sixteen parts of a text, in lists of sixteen numbers.
-use Rattle.std.specs.Prelude.{◌≡◌, List, [], ◌∷◌, ℕ, ◌+◌, ◌*◌, ◌%◌, ◌≤◌, ◌<◌, max, length, get_or}
+use Rattle.std.specs.Prelude.{◌≡◌, List, ℕ, ◌+◌, ◌*◌, ◌%◌, ◌≤◌, ◌<◌, length, get_or}
 use Rattle.rules.specs.Text.{line_feeds}
 use Rattle.ascii.specs.Part.{part}
 use Rattle.columns.specs.Measured.{count, measure}
-use Rattle.steps.specs.Steps.{on_by, feed_of, Below, Mapped, rows}
-use Rattle.lanes.specs.declared.Lane.{Lane}
+use Rattle.steps.specs.Steps.{Below}
 
 -- each number is a byte that is not below the offset
 pub record Over (l : List ℕ) : Type 0 where
   pub from : (k : ℕ) → k < 16 → 120 ≤ get_or l k 0
   pub below : (k : ℕ) → k < 16 → get_or l k 0 < 256
-
--- a lane after the codes of some bytes
-abbrev pub lane_on : Lane → List ℕ → Lane
-lane_on m [] = m
-lane_on m (x ∷ xs) = lane_on (record { at = on_by m.at x; top = max (on_by m.at x) m.top; feeds = m.feeds + feed_of x }) xs
-
-abbrev pub fresh : ℕ → Lane
-fresh at = record { at = at; top = at; feeds = 0 }
-
--- the first n lanes have gone on by their rows
-pub record Laned (t u : List ℕ) (n : ℕ) (c h f c' h' f' : List ℕ) : Type 0 where
-  pub columns : Mapped n (λ k x. (lane_on (fresh x) (rows t u k)).at) c c'
-  pub largest : Mapped n (λ k x. (lane_on (fresh (get_or c k 0)) (rows t u k)).top) h h'
-  pub feeds : Mapped n (λ k x. (lane_on (fresh (get_or c k 0)) (rows t u k)).feeds) f f'
 
 -- wide lanes that may go on by sixteen bytes: a line of 120 columns is known
 pub record Ready (c h g f : List ℕ) : Type 0 where

@@ -1,13 +1,11 @@
 -- A parameter list of records, and what a search of it gives: a record's number and the place of its value, or a place of the caller's.
-use Rattle.std.specs.Prelude.{Bool, ◌&&◌, List, ℕ}
-use Rattle.std.proofs.Math.Option.{Option, none, some}
+use Rattle.std.specs.Prelude.{Bool, ◌&&◌, List, ℕ, Option, None, Some}
 use Rattle.rules.specs.declared.Place.{Place}
 use Rattle.rules.specs.declared.Counts.{Counts}
 use Rattle.rules.specs.Base.{same, find, nth?}
 use Rattle.rules.specs.Words.{body_at}
 use Rattle.rules.specs.Checks.{in_body}
 use Rattle.rules.specs.Sheet.{body_part}
-use Rattle.params.specs.declared.Entry.{Entry}
 use Rattle.params.specs.declared.Found.{Found}
 use Rattle.lent.specs.declared.Param.{Param}
 
@@ -22,8 +20,8 @@ no_param = record { name = no_place; value = no_place }
 
 -- record n, or the caller's place where there is none
 abbrev pub found_or : Place → ℕ → Option Param → Found
-found_or own n none = record { place = own; entry = Entry.Nothing }
-found_or own n (some p) = record { place = p.value; entry = Entry.At n }
+found_or own n None = record { place = own; entry = None }
+found_or own n (Some p) = record { place = p.value; entry = Some n }
 
 unfoldable pub numbered : List Param → ℕ → Place → Found
 numbered ps n own = found_or own n (nth? ps n)
@@ -36,8 +34,8 @@ equals s c p n = in_body p c.bytes && (in_body n c.bytes && same (body_part s (b
 
 -- the record of a number that a search gave
 abbrev pub found_by : List Param → Place → Option ℕ → Found
-found_by ps own none = record { place = own; entry = Entry.Nothing }
-found_by ps own (some n) = numbered ps n own
+found_by ps own None = record { place = own; entry = None }
+found_by ps own (Some n) = numbered ps n own
 
 -- the first record whose name equals n
 unfoldable pub named_in : List ℕ → Counts → Place → List Param → Place → Found

@@ -1,15 +1,14 @@
 -- Laws of the count of line feeds, and of whether a tab stands there. Assumes nothing.
 use mathlib.Core.Path.{◌≡◌, refl, sym, ap, ◌∙◌}
-use mathlib.Core.Bool.{Bool, true, false, not, ◌&&◌, ◌||◌}
+use mathlib.Core.Bool.{Bool, true, false, ◌||◌}
 use mathlib.Core.List.{List, [], ◌∷◌, ◌++◌}
 use Prim.Native.Nat.{ℕ, suc, ◌+◌, ◌-◌, ◌≤◌, ◌<◌}
 use native.Mathlib.Numerals.{add-one}
 use native.Mathlib.Omega.{arith}
-use lib.Bits.{bit_or}
+use mir.Val.{bool_byte as from_bool}
 use lib.Dec.{eqb}
 use lib.ListN.{length, take, get_or}
 use lib.Seq.{length-take-le, take-add}
-use borrow.Author.Tests.{eq-eqb}
 use Rattle.std.specs.Prelude.{if◌then◌else◌}
 use Rattle.rules.specs.Text.{line_feeds, lines, width}
 use Rattle.rules.proofs.Short.{feeds-few}
@@ -20,7 +19,6 @@ use Rattle.columns.specs.declared.Measure.{Measure}
 use Rattle.columns.specs.Measured.{measure}
 use Rattle.parts.specs.declared.Counted.{Counted}
 use Rattle.parts.specs.Parts.{counted_of}
-use Rattle.longest.proofs.LongestLaws.{or-zero}
 use Rattle.parts.proofs.JoinLaws.{feeds-both}
 use Rattle.lines.specs.declared.Size.{Size}
 use Rattle.lines.specs.declared.Marks.{Marks}
@@ -29,39 +27,39 @@ use Rattle.lines.specs.Marked.{size_of}
 
 -- ---- two parts
 
-not-either : (p q : Bool) → (not p && not q) ≡ not (p || q)
-not-either true q = refl
-not-either false q = refl
-
-marked-both : (v w : List ℕ) (f g s t : ℕ) → Marked v (record { feeds = f; tab = s }) → Marked w (record { feeds = g; tab = t }) → Marked (v ++ w) (record { feeds = f + g; tab = bit_or s t })
+marked-both : (v w : List ℕ) (f g : ℕ) (s t : Bool) → Marked v (record { feeds = f; tab = s }) → Marked w (record { feeds = g; tab = t }) → Marked (v ++ w) (record { feeds = f + g; tab = s || t })
 marked-both v w f g s t a b =
     record {
       counted = let e = feeds-both v w in let k = a.counted in let l = b.counted in omega arith;
-      seen = or-zero s t ∙ rw (a.seen, b.seen, has_both 9 9 v w) (not-either (has 9 9 v) (has 9 9 w));
+      seen = rw (a.seen, b.seen) (sym (has_both 9 9 v w));
     }
 
 -- ---- a byte, and a block
 
-marked-byte : (x f t : ℕ) → f ≡ (if eqb x 10 then 1 else 0) → t ≡ (if eqb x 9 then 1 else 0) → Marked (x ∷ []) (record { feeds = f; tab = t })
-marked-byte x f t e g = record { counted = e; seen = rw g (go (eqb x 9)) }
+marked-byte : (x f : ℕ) → f ≡ from_bool (eqb x 10) → Marked (x ∷ []) (record { feeds = f; tab = eqb x 9 })
+marked-byte x f e = record { counted = e ∙ one (eqb x 10); seen = go (eqb x 9) }
   where
-    go : (b : Bool) → eqb (if b then 1 else 0) 0 ≡ not ((b || b) || false)
+    one : (b : Bool) → from_bool b ≡ (if b then 1 else 0)
+    one true = refl
+    one false = refl
+
+    go : (b : Bool) → b ≡ ((b || b) || false)
     go true = refl
     go false = refl
 
-pub by-mark : (d : List ℕ) (start i f t g s : ℕ) → start + i < length d → Marked (part d start i) (record { feeds = f; tab = t })
-    → g ≡ (if eqb (get_or d (start + i) 0) 10 then 1 else 0) → s ≡ (if eqb (get_or d (start + i) 0) 9 then 1 else 0) → Marked (part d start (i + 1)) (record { feeds = f + g; tab = bit_or t s })
-by-mark d start i f t g s h m e k =
+pub by-mark : (d : List ℕ) (start i f g : ℕ) (t : Bool) → start + i < length d → Marked (part d start i) (record { feeds = f; tab = t })
+    → g ≡ from_bool (eqb (get_or d (start + i) 0) 10) → Marked (part d start (i + 1)) (record { feeds = f + g; tab = t || eqb (get_or d (start + i) 0) 9 })
+by-mark d start i f g t h m e =
     let x = get_or d (start + i) 0 in
-    rw (part-suc d start i h) (marked-both (part d start i) (x ∷ []) f g t s m (marked-byte x g s e k))
+    rw (part-suc d start i h) (marked-both (part d start i) (x ∷ []) f g t (eqb x 9) m (marked-byte x g e))
 
-pub by-block : (d : List ℕ) (start i k f t : ℕ) (m : Marks) → Marked (part d start i) (record { feeds = f; tab = t }) → Marked (part d (start + i) k) m
-    → Marked (part d start (i + k)) (record { feeds = f + m.feeds; tab = bit_or t m.tab })
-by-block d start i k f t m a b = rw (part-more d start i k) (marked-both (part d start i) (part d (start + i) k) f m.feeds t m.tab a b)
+pub by_block : (d : List ℕ) (start i k f : ℕ) (t : Bool) (m : Marks) → Marked (part d start i) (record { feeds = f; tab = t }) → Marked (part d (start + i) k) m
+    → Marked (part d start (i + k)) (record { feeds = f + m.feeds; tab = t || m.tab })
+by_block d start i k f t m a b = rw (part-more d start i k) (marked-both (part d start i) (part d (start + i) k) f m.feeds t m.tab a b)
 
-pub by-last-block : (d : List ℕ) (start n i f t : ℕ) (m : Marks) → i ≤ n → Marked (part d start i) (record { feeds = f; tab = t }) → Marked (part d (start + i) (n - i)) m
-    → Marked (part d start n) (record { feeds = f + m.feeds; tab = bit_or t m.tab })
-by-last-block d start n i f t m h a b = let e : i + (n - i) ≡ n = omega arith in rw e at (by-block d start i (n - i) f t m a b)
+pub by_last_block : (d : List ℕ) (start n i f : ℕ) (t : Bool) (m : Marks) → i ≤ n → Marked (part d start i) (record { feeds = f; tab = t }) → Marked (part d (start + i) (n - i)) m
+    → Marked (part d start n) (record { feeds = f + m.feeds; tab = t || m.tab })
+by_last_block d start n i f t m h a b = let e : i + (n - i) ≡ n = omega arith in rw e at (by_block d start i (n - i) f t m a b)
 
 -- ---- the size
 
@@ -71,9 +69,6 @@ lines-some (x ∷ xs) h = sym (add-one _)
 
 size : ℕ → ℕ → Size
 size n w = record { lines = n; width = w }
-
-pub by-no-size : (d : List ℕ) (len : ℕ) → len ≡ 0 → record { lines = 0; width = 0 } ≡ size_of (take len d)
-by-no-size d len z = rw z
 
 -- the lines of i bytes, and those of k more
 pub by-more-lines : (d : List ℕ) (i k n g : ℕ) → g ≡ line_feeds (part d i k) → n ≡ line_feeds (take i d) + 1 → n + g ≡ line_feeds (take (i + k) d) + 1
@@ -101,8 +96,8 @@ module _ (d : List ℕ) (i k : ℕ) (m : Measure) (s : Counted) (e : s ≡ count
   pub few-feeds : i + k ≤ length d → s.feeds ≤ k
   few-feeds h = let l = length_part d i k h in let f = feeds-few (part d i k) in let g = by-parts-feeds in omega arith
 
-  pub by-parts-columns : record { at = s.at; best = s.best } ≡ measure m (part d i k)
-  by-parts-columns = rw e
+  pub by-parts-columns : s.columns ≡ measure m (part d i k)
+  by-parts-columns = ap (λ (r : Counted). r.columns) e
 
 -- ---- what the marks say
 
@@ -124,13 +119,9 @@ no-feed (x ∷ xs) h = go (eqb x 10) (no-feed xs) h
     go true f h = absurd (omega arith)
     go false f h = f h
 
-module _ (v : List ℕ) (m : Marks) (k : Marked v m) (t : m.tab ≡ 0) where
-  pub no-tab : has 9 9 v ≡ false
-  no-tab = none (has 9 9 v) (sym k.seen ∙ eq-eqb m.tab 0 t)
-    where
-      none : (b : Bool) → not b ≡ true → b ≡ false
-      none true e = sym e
-      none false e = refl
+module _ (v : List ℕ) (m : Marks) (k : Marked v m) (t : m.tab ≡ false) where
+  pub no_tab : has 9 9 v ≡ false
+  no_tab = sym k.seen ∙ t
 
-  pub no-mark : m.feeds ≡ 0 → has 9 10 v ≡ false
-  no-mark f = has_either 9 10 v no-tab (no-feed v (sym k.counted ∙ f))
+  pub no_mark : m.feeds ≡ 0 → has 9 10 v ≡ false
+  no_mark f = has_either 9 10 v no_tab (no-feed v (sym k.counted ∙ f))

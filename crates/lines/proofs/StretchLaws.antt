@@ -15,7 +15,7 @@ use Rattle.ascii.specs.Part.{part, has, before}
 use Rattle.ascii.proofs.PartLaws.{length_part, part-cons, part-more, part-drop, part_end}
 use Rattle.columns.specs.declared.Measure.{Measure}
 use Rattle.columns.specs.Measured.{one_on, measure, onward}
-use Rattle.columns.proofs.MeasureLaws.{Counted, counted-on, by-rest, by-plain}
+use Rattle.columns.proofs.MeasureLaws.{Counted, counted-on, by_rest, by_plain}
 use Rattle.lines.proofs.MarkLaws.{has_either}
 use Rattle.longest.specs.Short.{Last}
 use Rattle.longest.proofs.LongestLaws.{rest, exact}
@@ -41,9 +41,9 @@ since-last (y ∷ ys) w x at e h = since-last ys w x (if eqb y 10 then 0 else su
 
 -- where a line feed stands the column is what follows the last one
 module _ (d : List ℕ) (start n at : ℕ) (h : start + n ≤ length d) where
-  pub by-past : (r : ℕ) → (r ≡ 0 → ⊥) → Last d start n r → n - r ≡ since at (part d start n)
-  by-past zero z l = absurd (z refl)
-  by-past (suc p) z t =
+  pub by_past : (r : ℕ) → (r ≡ 0 → ⊥) → Last d start n r → n - r ≡ since at (part d start n)
+  by_past zero z l = absurd (z refl)
+  by_past (suc p) z t =
       let c = t.within in
       let f = t.none in
       let a : n ≡ p + suc (n - suc p) = omega arith in
@@ -59,24 +59,21 @@ module _ (d : List ℕ) (start n at : ℕ) (h : start + n ≤ length d) where
 -- ---- the longest line
 
 module _ (d : List ℕ) (start n : ℕ) (m : Measure) (h : start + n ≤ length d) where
-  pub by-known : m.at + n ≤ m.best → m.best ≡ longest_from m.at m.best (part d start n)
-  by-known c = let l = length_part d start n h in sym (rest (part d start n) m.at m.best (omega arith))
-
-  pub by-fresh : (r : ℕ) → m.at ≡ 0 → r ≡ longest_from 0 m.best (part d start n) → r ≡ longest_from m.at m.best (part d start n)
-  by-fresh r z e = rw z e
+  pub by_known : m.at + n ≤ m.best → m.best ≡ longest_from m.at m.best (part d start n)
+  by_known c = let l = length_part d start n h in sym (rest (part d start n) m.at m.best (omega arith))
 
   module _ (l b : ℕ) (e : l ≡ before 10 (part d start n)) (f : b ≡ max (m.at + l) m.best) where
     first-line : longest_from 0 b (drop (suc l) (part d start n)) ≡ longest_from m.at m.best (part d start n)
     first-line = rw (f, e) (exact (part d start n) m.at m.best)
 
-    pub by-one-line : l ≡ n → b ≡ longest_from m.at m.best (part d start n)
-    by-one-line z =
+    pub by_one_line : l ≡ n → b ≡ longest_from m.at m.best (part d start n)
+    by_one_line z =
         let o : max 0 b ≡ b = omega arith in
         let k : longest_from 0 b (drop (suc l) (part d start n)) ≡ max 0 b = ap (longest_from 0 b) (part_end d start n (suc l) h (omega arith)) in
         sym o ∙ sym k ∙ first-line
 
-    pub by-more : (r : ℕ) → r ≡ longest_from 0 b (part d (start + l + 1) (n - l - 1)) → r ≡ longest_from m.at m.best (part d start n)
-    by-more r g =
+    pub by_more : (r : ℕ) → r ≡ longest_from 0 b (part d (start + l + 1) (n - l - 1)) → r ≡ longest_from m.at m.best (part d start n)
+    by_more r g =
         let a : start + suc l ≡ start + l + 1 = omega arith in
         let c : n - suc l ≡ n - l - 1 = omega arith in
         g ∙ ap (longest_from 0 b) (sym (rw (a, c) at (part-drop d start n (suc l)))) ∙ first-line
@@ -116,17 +113,17 @@ module _ (d : List ℕ) (start n : ℕ) (m : Measure) (u : m.at ≤ m.best) (t :
   unfolding both
   by_lines a b e f = rw (e, f) (lines-measured m (part d start n) u t)
 
-  pub by-last-lines : (b : ℕ) → b ≡ longest_from m.at m.best (part d start n) → b ≡ (measure m (part d start n)).best
-  by-last-lines b f = ap (λ (r : Measure). r.best) (by_lines (since m.at (part d start n)) b refl f)
+  pub by_last_lines : (b : ℕ) → b ≡ longest_from m.at m.best (part d start n) → b ≡ (measure m (part d start n)).best
+  by_last_lines b f = ap (λ (r : Measure). r.best) (by_lines (since m.at (part d start n)) b refl f)
 
 -- ---- lines without a tab, and the line of one
 
-pub by-no-feed : (d : List ℕ) (start n r : ℕ) (m e : Measure) → start + n ≤ length d → m.at ≤ m.best → has 9 9 (part d start n) ≡ false → r ≡ 0 → Last d start n r → e ≡ onward m n → e ≡ measure m (part d start n)
-by-no-feed d start n r m e h u t z l f =
+pub by_no_feed : (d : List ℕ) (start n r : ℕ) (m e : Measure) → start + n ≤ length d → m.at ≤ m.best → has 9 9 (part d start n) ≡ false → r ≡ 0 → Last d start n r → e ≡ onward m n → e ≡ measure m (part d start n)
+by_no_feed d start n r m e h u t z l f =
     let a : start + 0 ≡ start = omega arith in
     let b : n - 0 ≡ n = omega arith in
     let g : has 10 10 (part d start n) ≡ false = rw (z, a, b) at l.none in
-    f ∙ by-plain d start n m h u (has_either 9 10 (part d start n) t g)
+    f ∙ by_plain d start n m h u (has_either 9 10 (part d start n) t g)
 
 before-any : (b : ℕ) (v : List ℕ) (r : ℕ) → r ≤ before b v → has b b (take r v) ≡ false
 before-any b v zero h = refl
@@ -137,8 +134,8 @@ before-any b (x ∷ xs) (suc r) h = go (eqb x b) refl (before-any b xs r)
     go true e f = absurd (let k : before b (x ∷ xs) ≡ 0 = rw e in omega arith)
     go false e f = let k : before b (x ∷ xs) ≡ suc (before b xs) = rw e in rw e (f (omega arith))
 
-pub no-tab-before : (d : List ℕ) (start n tab r : ℕ) → tab ≡ before 9 (part d start n) → tab ≤ n → r ≤ tab → has 9 9 (part d start r) ≡ false
-no-tab-before d start n tab r e c h =
+pub no_tab_before : (d : List ℕ) (start n tab r : ℕ) → tab ≡ before 9 (part d start n) → tab ≤ n → r ≤ tab → has 9 9 (part d start r) ≡ false
+no_tab_before d start n tab r e c h =
     ap (has 9 9) (sym (take-take r n (drop start d) (omega arith))) ∙ before-any 9 (part d start n) r (omega arith)
 
 -- a turn: b bytes without a tab, and l of the tab's line
@@ -167,4 +164,4 @@ module _ (d : List ℕ) (len i : ℕ) (m : Measure) (s : Counted d 0 len (record
 
   pub by_width : (w : ℕ) → len ≤ length d → w ≡ (measure m (part d i (len - i))).best → w ≡ width (take len d)
   by_width w h e =
-      e ∙ ap (λ (r : Measure). r.best) (by-rest d 0 len (record { at = 0; best = 0 }) i m (omega arith) s _ (from_zero (len - i))) ∙ measure-width (record { at = 0; best = 0 }) (take len d)
+      e ∙ ap (λ (r : Measure). r.best) (by_rest d 0 len (record { at = 0; best = 0 }) i m (omega arith) s _ (from_zero (len - i))) ∙ measure-width (record { at = 0; best = 0 }) (take len d)

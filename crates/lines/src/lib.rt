@@ -1,7 +1,7 @@
 // The lines of a text and its width, counted a stretch at a time.
 #![tactic(auto)]
 
-ghost use Rattle.std.specs.Prelude.{if◌then◌else◌, ◌≡◌, false, ◌+◌, ◌*◌, ◌%◌, ◌^◌, ◌≤◌, ◌<◌, eqb, length, take};
+ghost use Rattle.std.specs.Prelude.{◌≡◌, false, ◌+◌, ◌*◌, ◌%◌, ◌^◌, ◌≤◌, ◌<◌, length, take, IfSome};
 ghost use Rattle.rules.specs.Columns.{longest_from};
 ghost use Rattle.ascii.specs.Part.{part, has};
 ghost use Rattle.columns.specs.Measured.{measure};
@@ -9,7 +9,7 @@ ghost use Rattle.lines.specs.Marked.{Marked, size_of};
 
 use ascii::find;
 use columns::{Measure, by_columns, passed};
-use longest::{equal, larger, least, longest_line, past_last};
+use longest::{longest_line, past_last};
 use parts::{by_parts, sixteen};
 
 #[derive(Drop)]
@@ -20,11 +20,11 @@ pub struct Size {
 
 // ---- line feeds and tabs
 
-// `tab` is not 0 where a tab stands.
+// The line feeds, and whether a tab stands there.
 #[derive(Clone, Copy)]
 pub struct Marks {
     pub feeds: usize,
-    pub tab: u8,
+    pub tab: bool,
 }
 
 // No branch for each byte, and so few bytes that their line feeds, summed, fit in one: a block of a fixed length is counted many
@@ -34,16 +34,14 @@ fn marks_in(text: &[u8], start: usize, n: usize) -> Marks
     ensures { Marked (part text.now start n) result × (result.feeds ≤ n) }
 {
     let mut feeds: u8 = 0;
-    let mut tab: u8 = 0;
-    let mut i = 0;
-    while i < n {
+    let mut tab = false;
+    for i in 0..n {
         let b = text[start + i];
-        feeds += equal(b, 10);
-        tab |= equal(b, 9);
-        i += 1;
+        feeds += u8::from(b == 10);
+        tab |= b == 9;
     }
     Marks {
-        feeds: feeds as usize,
+        feeds: usize::from(feeds),
         tab,
     }
 }
@@ -53,15 +51,14 @@ fn all_marks(text: &[u8], start: usize, n: usize) -> Marks
     ensures { Marked (part text.now start n) result × (result.feeds ≤ n) }
 {
     let mut feeds = 0;
-    let mut tab: u8 = 0;
-    let mut i = 0;
-    while 192 <= n - i {
-        let m = marks_in(text, start + i, 192);
+    let mut tab = false;
+    for k in 0..n / 192 {
+        let m = marks_in(text, start + 192 * k, 192);
         feeds += m.feeds;
         tab |= m.tab;
-        i += 192;
     }
-    let m = marks_in(text, start + i, n - i);
+    let last = 192 * (n / 192);
+    let m = marks_in(text, start + last, n - last);
     Marks {
         feeds: feeds + m.feeds,
         tab: tab | m.tab,
@@ -71,6 +68,7 @@ fn all_marks(text: &[u8], start: usize, n: usize) -> Marks
 // ---- without tabs a column is a byte
 
 // The longest line, `at` bytes of the first standing before.
+#[tactic(auto, using(crate::proofs::StretchLaws::by_known, crate::proofs::StretchLaws::by_one_line, crate::proofs::StretchLaws::by_more))]
 fn longest_from(text: &[u8], start: usize, n: usize, m: Measure) -> usize
     requires { (start + n ≤ length text.now) × (m.at + n < 2 ^ 63) }
     ensures { result ≡ longest_from m.at m.best (part text.now start n) }
@@ -84,13 +82,14 @@ fn longest_from(text: &[u8], start: usize, n: usize, m: Measure) -> usize
         return longest_line(text, start, n, m.best);
     }
     let first = find(text, start, n, 10);
-    let best = larger(at + first, m.best);
+    let best = (at + first).max(m.best);
     if first == n {
         return best;
     }
     longest_line(text, start + first + 1, n - first - 1, best)
 }
 
+#[tactic(auto, using(crate::proofs::StretchLaws::by_no_feed, crate::proofs::StretchLaws::by_lines, crate::proofs::StretchLaws::by_past))]
 fn without_tabs(text: &[u8], start: usize, n: usize, m: Measure) -> Measure
     requires n_in_bounds { (start + n ≤ length text.now) × (m.at ≤ m.best) × (m.at + n < 2 ^ 63) }
     requires n_value { has 9 9 (part text.now start n) ≡ false }
@@ -115,6 +114,7 @@ fn with_tabs(text: &[u8], start: usize, n: usize, from: Measure) -> Measure
 {
     let mut m = from;
     let mut i = 0;
+    // Steps of no fixed length: a `while`.
     while i < n {
         let tab = find(text, start + i, n - i, 9);
         if tab < 1024 {
@@ -137,7 +137,7 @@ fn stretch(text: &[u8], start: usize, n: usize, k: Marks, m: Measure) -> Measure
     requires marked { Marked (part text.now start n) k }
     ensures { result ≡ measure m (part text.now start n) }
 {
-    if k.tab != 0 {
+    if k.tab {
         return with_tabs(text, start, n, m);
     }
     if k.feeds == 0 {
@@ -147,34 +147,34 @@ fn stretch(text: &[u8], start: usize, n: usize, k: Marks, m: Measure) -> Measure
 }
 
 // The last one: nobody asks for the column at its end.
+#[tactic(auto, using(crate::proofs::StretchLaws::by_last_lines, crate::proofs::MarkLaws::no_tab))]
 fn last_stretch(text: &[u8], start: usize, n: usize, k: Marks, m: Measure) -> usize
     requires n_in_bounds { (start + n ≤ length text.now) × (m.at ≤ m.best) × (m.at + 8 * n < 2 ^ 63) }
     requires marked { Marked (part text.now start n) k }
     ensures { result ≡ (measure m (part text.now start n)).best }
 {
-    if k.tab != 0 {
+    if k.tab {
         let all = with_tabs(text, start, n, m);
         return all.best;
     }
     longest_from(text, start, n, m)
 }
 
-// How long each of sixteen parts of the next bytes is, where tabs stand close, or 0. There line feeds and columns are counted in
-// one pass.
-fn close(text: &[u8], start: usize, n: usize, tab: u8) -> usize
+// How long each of sixteen parts of the next bytes is, where tabs stand close. There line feeds and columns are counted in one pass.
+fn close(text: &[u8], start: usize, n: usize, tab: bool) -> Option<usize>
     requires { start + n ≤ length text.now }
-    ensures { (16 * result ≤ n) × (result % 16 ≡ 0) × (result ≤ 4064) }
+    ensures { IfSome result (λ far. (16 * far ≤ n) × (far % 16 ≡ 0) × (far ≤ 4064) × (0 < far)) }
 {
-    if tab == 0 {
-        return 0;
+    if !tab {
+        return None;
     }
     if n < 4224 {
-        return 0;
+        return None;
     }
-    if find(text, start, 1024, 9) < 1024 {
-        return least(n / 256, 254) * 16;
+    if find(text, start, 1024, 9) == 1024 {
+        return None;
     }
-    0
+    Some((n / 256).min(254) * 16)
 }
 
 pub fn lines_width(text: &[u8], len: usize) -> Size
@@ -187,17 +187,13 @@ pub fn lines_width(text: &[u8], len: usize) -> Size
     let mut m = Measure { at: 0, best: 0 };
     let mut lines = 1;
     let mut i = 0;
-    let mut tab: u8 = 0;
+    let mut tab = false;
     // 22 blocks of marks: so short that they are still near when they are read again, and longer than a page of memory, so that the
-    // next bytes are fetched while these are counted. Any length gives the same numbers.
+    // next bytes are fetched while these are counted. Any length gives the same numbers. Steps of no fixed length: a `while`.
     while 4224 < len - i {
-        let far = close(text, i, len - i, tab);
-        if far != 0 {
+        if let Some(far) = close(text, i, len - i, tab) {
             let s = sixteen(text, i, far, m);
-            m = Measure {
-                at: s.at,
-                best: s.best,
-            };
+            m = s.columns;
             lines += s.feeds;
             i += 16 * far;
             continue;

@@ -7,18 +7,17 @@ use native.Mathlib.Nat.{mul-le-mul_left, mul-le-mul_right, mul_assoc, pow-succ',
 use native.Mathlib.Omega.{arith}
 use lib.Bits.{bit_or, bit_xor, or_add_and, xor_add_and, and_le_l, and_le_r}
 use lib.Dec.{eqb, ltb}
-use lib.ListN.{length, get_or, set, replicate, length-set}
+use lib.ListN.{length, get_or, replicate}
 use lib.Pow.{pow_pos, shr-shr}
-use lib.Seq.{get_or-set_same, get_or-set_other}
 use borrow.Author.Count.{below_more}
 use borrow.Author.Tests.{eqb-true, ltb-true, ltb-false}
-use Rattle.std.specs.Prelude.{if◌then◌else◌}
+use mir.Val.{bool_byte as from_bool}
 use Rattle.ascii.specs.Part.{part, has}
 use Rattle.ascii.proofs.PartLaws.{part-cons}
 use Rattle.marks.specs.Marks.{bit_at}
 use Rattle.marks.proofs.BitLaws.{bit-or}
 use Rattle.longest.specs.Short.{Passed, InEach}
-use Rattle.longest.specs.Flags.{Flags, Flagged, Widened, SetFrom, Near, Reached, AllSet}
+use Rattle.longest.specs.Flags.{Flagged, Widened, SetFrom, Near, Reached, AllSet}
 use Rattle.longest.proofs.LongestLaws.{in-second, by-windows}
 
 -- ---- one byte, a flag more at a time
@@ -35,10 +34,10 @@ next_bit b e i h =
     let m : (b + b + e) / 2 ^ (1 + i) ≡ b / 2 ^ i = sym (shr-shr (b + b + e) 1 i) ∙ ap (λ (x : ℕ). x / 2 ^ i) k in
     rw (z, m)
 
-told-one : (x e : ℕ) → e ≡ (if eqb x 10 then 1 else 0) → eqb e 1 ≡ eqb x 10
+told-one : (x e : ℕ) → e ≡ from_bool (eqb x 10) → eqb e 1 ≡ eqb x 10
 told-one x e f = rw f (go (eqb x 10))
   where
-    go : (b : Bool) → eqb (if b then 1 else 0) 1 ≡ b
+    go : (b : Bool) → eqb (from_bool b) 1 ≡ b
     go true = refl
     go false = refl
 
@@ -49,9 +48,6 @@ in-eighth k far h = mul-le-mul_right far (omega arith)
 pub record Some (d : List ℕ) (at far k v : ℕ) : Type 0 where
   pub fits : (v + 1) * 2 ^ k ≤ 256
   pub told : (i : ℕ) → i + k < 8 → bit_at v i ≡ eqb (get_or d (at + (i + k) * far) 0) 10
-
-pub none : (d : List ℕ) (at far : ℕ) → Some d at far 8 0
-none d at far = record { fits = omega arith; told = λ i l. absurd (omega arith) }
 
 -- twice as many fit where a part is left
 pub doubled : (v k : ℕ) → (v + 1) * 2 ^ suc k ≡ (v + 1) * 2 * 2 ^ k
@@ -64,49 +60,18 @@ has_room d at far (suc k) v h s =
     let p : (v + 1) * 2 * 1 ≤ (v + 1) * 2 * 2 ^ k = mul-le-mul_left ((v + 1) * 2) (pow_pos k) in
     omega arith
 
-pub one_more : (d : List ℕ) (at far k v e : ℕ) → 0 < k → Some d at far k v → e ≡ (if eqb (get_or d (at + (k - 1) * far) 0) 10 then 1 else 0) → e ≤ 1 → Some d at far (k - 1) (v + v + e)
+pub one_more : (d : List ℕ) (at far k v e : ℕ) → 0 < k → Some d at far k v → e ≡ from_bool (eqb (get_or d (at + (k - 1) * far) 0) 10) → e ≤ 1 → Some d at far (k - 1) (v + v + e)
 one_more d at far zero v e h s f g = absurd (omega arith)
 one_more d at far (suc k) v e h s f g =
     let z : suc k - 1 ≡ k = omega arith in
     let x : (v + v + e + 1) * 2 ^ k ≤ (v + 1) * 2 * 2 ^ k = mul-le-mul_right (2 ^ k) (omega arith) in
     let y : (v + 1) * 2 * 2 ^ k ≤ 256 = rw (doubled v k) at s.fits in
-    let o : e ≡ (if eqb (get_or d (at + k * far) 0) 10 then 1 else 0) = rw z at f in
+    let o : e ≡ from_bool (eqb (get_or d (at + k * far) 0) 10) = rw z at f in
     rw z (record { fits = omega arith; told = told o })
   where
-    told : e ≡ (if eqb (get_or d (at + k * far) 0) 10 then 1 else 0) → (i : ℕ) → i + k < 8 → bit_at (v + v + e) i ≡ eqb (get_or d (at + (i + k) * far) 0) 10
+    told : e ≡ from_bool (eqb (get_or d (at + k * far) 0) 10) → (i : ℕ) → i + k < 8 → bit_at (v + v + e) i ≡ eqb (get_or d (at + (i + k) * far) 0) 10
     told o zero l = let n : 0 + k ≡ k = omega arith in rw n (first_bit v e g ∙ told-one (get_or d (at + k * far) 0) e o)
     told o (suc i) l = let n : suc i + k ≡ i + suc k = omega arith in rw n (next_bit v e i g ∙ s.told i (omega arith))
-
-pub all_told : (d : List ℕ) (at far v : ℕ) → Some d at far 0 v → Flags d at far v
-all_told d at far v s = record { told = λ k l. let z : k + 0 ≡ k = omega arith in rw z at (s.told k (omega arith)) }
-
--- ---- a list of them
-
-module _ (d : List ℕ) (start far : ℕ) (was : List ℕ) where
-  pub flagged_none : Flagged d start far 0 was was
-  flagged_none = record { long = refl; new = λ j l. absurd (omega arith); old = λ j l. refl }
-
-  pub by_flag : (j v : ℕ) (l : List ℕ) → j < length l → Flagged d start far j was l → Flags d (start + j) far v → Flagged d start far (j + 1) was (set l j v)
-  by_flag j v l h f g =
-      record {
-        long = length-set l j v ∙ f.long;
-        new = below_more _ j (λ i c. rw (get_or-set_other l j i v 0 (λ e. omega arith)) (f.new i c)) (rw (get_or-set_same l j v 0 h) g);
-        old = λ i c. get_or-set_other l j i v 0 (λ e. omega arith) ∙ f.old i (omega arith);
-      }
-
-module _ (was : List ℕ) (by : ℕ) where
-  pub widened_none : Widened was 0 by was
-  widened_none = record { long = refl; new = λ j l. absurd (omega arith); old = λ j l. refl }
-
-  pub by-wider : (j : ℕ) (l : List ℕ) → j < length l → Widened was j by l → Widened was (j + 1) by (set l j (bit_or (get_or l j 0) (get_or l (j + by) 0)))
-  by-wider j l h f =
-      let v = bit_or (get_or l j 0) (get_or l (j + by) 0) in
-      let e : v ≡ bit_or (get_or was j 0) (get_or was (j + by) 0) = rw (f.old j (omega arith), f.old (j + by) (omega arith)) in
-      record {
-        long = length-set l j v ∙ f.long;
-        new = below_more _ j (λ i c. get_or-set_other l j i v 0 (λ z. omega arith) ∙ f.new i c) (get_or-set_same l j v 0 h ∙ e);
-        old = λ i c. get_or-set_other l j i v 0 (λ z. omega arith) ∙ f.old i (omega arith);
-      }
 
 -- ---- where a bit comes from
 
@@ -138,14 +103,8 @@ near-more was l r w by n s f = record { from = λ j k e. go j k e (ltb j n) refl
     go j k e true t = near-both was l w by j k s (rw (f.new j (ltb-true j n t)) at e)
     go j k e false t = let c = ltb-false j n t in farther was j k w by (s.from j k (rw (f.old j (omega arith)) at e))
 
-pub reached-here : (l : List ℕ) (h : ℕ) → Reached l h h l
-reached-here l h = record { long = refl; near = λ first n. n }
-
-pub reached-more : (was l : List ℕ) (h by n : ℕ) → Widened was n by l → Reached was h (h + by) l
-reached-more was l h by n f = record { long = f.long; near = λ first s. near-more first was l h by n s f }
-
-pub reached_then : (a b c : List ℕ) (h i j : ℕ) → Reached a h i b → Reached b i j c → Reached a h j c
-reached_then a b c h i j f g = record { long = g.long ∙ f.long; near = λ first s. g.near first (f.near first s) }
+pub reached_more : (was l : List ℕ) (h by n : ℕ) → Widened was n by l → Reached was h (h + by) l
+reached_more was l h by n f = record { long = f.long; near = λ first s. near-more first was l h by n s f }
 
 -- ---- every bit is set
 
@@ -157,9 +116,6 @@ zeros (suc m) (suc i) = zeros m i
 no-bit : (i : ℕ) → bit_at 0 i ≡ false
 unfolding bit_at
 no-bit i = let z : 0 / 2 ^ i ≡ 0 = zero-div (2 ^ i) in rw z
-
-pub all-set-none : (l : List ℕ) (by : ℕ) → AllSet l 0 by
-all-set-none l by = record { all = λ j k h. absurd (omega arith) }
 
 full : (i : ℕ) → i < 8 → bit_at 255 i ≡ true
 unfolding bit_at
@@ -173,11 +129,11 @@ full (suc (suc (suc (suc (suc (suc zero)))))) l = refl
 full (suc (suc (suc (suc (suc (suc (suc zero))))))) l = refl
 full (suc (suc (suc (suc (suc (suc (suc (suc i)))))))) l = absurd (omega arith)
 
-same_byte : (x c : ℕ) → bit_xor x c ≡ 0 → x ≡ c
+pub same_byte : (x c : ℕ) → bit_xor x c ≡ 0 → x ≡ c
 same_byte x c e = let o = xor_add_and x c in let p = and_le_l x c in let q = and_le_r x c in omega arith
 
-pub by-set : (l : List ℕ) (j by unset : ℕ) → (unset ≡ 0 → AllSet l j by) → bit_or unset (bit_xor (bit_or (get_or l j 0) (get_or l (j + by) 0)) 255) ≡ 0 → AllSet l (j + 1) by
-by-set l j by unset s e =
+pub by_set : (l : List ℕ) (j by unset : ℕ) → (unset ≡ 0 → AllSet l j by) → bit_or unset (bit_xor (bit_or (get_or l j 0) (get_or l (j + by) 0)) 255) ≡ 0 → AllSet l (j + 1) by
+by_set l j by unset s e =
     let v = bit_or (get_or l j 0) (get_or l (j + by) 0) in
     let o = or_add_and unset (bit_xor v 255) in
     let p = and_le_l unset (bit_xor v 255) in

@@ -10,9 +10,11 @@ use lib.Dec.{eqb}
 use lib.ListN.{length, take, drop, get_or, length-drop}
 use lib.Seq.{drop-drop, take-take, get_or-take, get_or-drop}
 use borrow.Author.Tests.{eq-eqb, ne_eqb, eqb-true, eqb-false}
+use Rattle.std.specs.Prelude.{Option, None, Some, MatchOption}
+use Rattle.memchr.specs.Find.{Nowhere, Passes, IsLastByte, is_byte}
 use Rattle.rules.specs.Columns.{longest_from}
 use Rattle.ascii.specs.Part.{part, has, before}
-use Rattle.ascii.proofs.PartLaws.{length_part, part-cons, part-drop, part_end, part-more}
+use Rattle.ascii.proofs.PartLaws.{length_part, part-drop, part_end, part-more}
 use Rattle.ascii.proofs.FindLaws.{has_both}
 use Rattle.longest.specs.Short.{Passed, InEach, Last}
 
@@ -102,8 +104,8 @@ pub passed_none : (d : List ℕ) (start n best : ℕ) → Passed d start n best 
 passed_none d start n best = record { within = omega arith; kept = refl }
 
 module _ (d : List ℕ) (start n best : ℕ) (h : start + n ≤ length d) where
-  pub passed-rest : n ≤ best → Passed d start n best n
-  passed-rest c =
+  pub passed_rest : n ≤ best → Passed d start n best n
+  passed_rest c =
       let l = length_part d start n h in
       let m : max 0 best ≡ best = omega arith in
       record { within = omega arith; kept = rw (part_end d start n n h (omega arith), m) (sym (rest (part d start n) 0 best (omega arith))) }
@@ -140,31 +142,44 @@ module _ (d : List ℕ) (start n best : ℕ) (h : start + n ≤ length d) where
 
 -- ---- the last line feed
 
-pub none-at-end : (d : List ℕ) (start n : ℕ) → has 10 10 (part d (start + n) (n - n)) ≡ false
-none-at-end d start n = let e : n - n ≡ 0 = omega arith in rw e
+none-has : (v : List ℕ) → ((k : ℕ) → k < length v → eqb (get_or v k 0) 10 ≡ true → ⊥) → has 10 10 v ≡ false
+none-has [] h = refl
+none-has (x ∷ xs) h = go (eqb x 10) refl (none-has xs (λ k c. h (suc k) (omega arith)))
+  where
+    go : (b : Bool) → eqb x 10 ≡ b → has 10 10 xs ≡ false → ((b || b) || has 10 10 xs) ≡ false
+    go true e f = absurd (h 0 (omega arith) e)
+    go false e f = f
 
--- none in k bytes before those that have none
-pub none_before : (d : List ℕ) (start n j k : ℕ) → k ≤ j → j ≤ n → has 10 10 (part d (start + j - k) k) ≡ false → has 10 10 (part d (start + j) (n - j)) ≡ false → has 10 10 (part d (start + (j - k)) (n - (j - k))) ≡ false
-none_before d start n j k h c e f =
-    let a : start + j - k ≡ start + (j - k) = omega arith in
-    let b : n - (j - k) ≡ k + (n - j) = omega arith in
-    let g : start + (j - k) + k ≡ start + j = omega arith in
-    let p : has 10 10 (part d (start + (j - k)) k) ≡ false = rw a at e in
-    rw (b, part-more d (start + (j - k)) k (n - j), has_both 10 10 (part d (start + (j - k)) k) (part d (start + (j - k) + k) (n - j)), p, g) f
+module _ (d : List ℕ) (start n : ℕ) (h : start + n ≤ length d) where
+  none-past : (m : ℕ) → Nowhere (Passes (is_byte 10) (part d start n)) m (length (part d start n)) → has 10 10 (part d (start + m) (n - m)) ≡ false
+  none-past m f =
+      let v = part d start n in
+      let l = length-drop m v in
+      ap (has 10 10) (sym (part-drop d start n m)) ∙ none-has (drop m v) (λ k c t. f (m + k) (omega arith) (omega arith) (rw (get_or-drop m v k 0) at t))
 
-pub other_byte : (d : List ℕ) (i : ℕ) → i < length d → (get_or d i 0 ≡ 10 → ⊥) → has 10 10 (part d i 1) ≡ false
-other_byte d i h z = let e = part-cons d i 0 h in rw (e, ne_eqb (get_or d i 0) 10 z)
+  -- where `memrchr` finds it
+  pub by-found : (r : Option ℕ) (m : ℕ) → IsLastByte (is_byte 10) (part d start n) r → MatchOption r (m ≡ 0) (λ i. m ≡ i + 1) → Last d start n m
+  by-found None m f e = record { within = omega arith; fed = λ p. absurd (omega arith); none = none-past m (λ k l c. f k (omega arith) c) }
+  by-found (Some i) m f e =
+      let l = length_part d start n h in
+      let c = f.0.high in
+      let z : start + m - 1 ≡ start + i = omega arith in
+      record {
+        within = omega arith;
+        fed = λ p. rw z (sym (get_or-take n (drop start d) i 0 (omega arith) ∙ get_or-drop start d i 0) ∙ eqb-true (get_or (part d start n) i 0) 10 f.1);
+        none = none-past m (λ k a b. f.0.after k (omega arith) b);
+      }
 
 -- ---- the loop
 
 module _ (d : List ℕ) (start n known i best : ℕ) (s : longest_from 0 best (drop i (part d start n)) ≡ longest_from 0 known (part d start n)) where
-  pub by-run : (r : ℕ) → Passed d (start + i) (n - i) best r → longest_from 0 best (drop (i + r) (part d start n)) ≡ longest_from 0 known (part d start n)
-  by-run r p =
+  pub by_run : (r : ℕ) → Passed d (start + i) (n - i) best r → longest_from 0 best (drop (i + r) (part d start n)) ≡ longest_from 0 known (part d start n)
+  by_run r p =
       let a = part-drop d start n i in
       ap (longest_from 0 best) (sym (drop-drop r i (part d start n)) ∙ ap (drop r) a) ∙ p.kept ∙ ap (longest_from 0 best) (sym a) ∙ s
 
-  pub by-line : (l m : ℕ) → l ≡ before 10 (part d (start + i) (n - i)) → m ≡ max l best → longest_from 0 m (drop (i + (l + 1)) (part d start n)) ≡ longest_from 0 known (part d start n)
-  by-line l m e f =
+  pub by_line : (l m : ℕ) → l ≡ before 10 (part d (start + i) (n - i)) → m ≡ max l best → longest_from 0 m (drop (i + (l + 1)) (part d start n)) ≡ longest_from 0 known (part d start n)
+  by_line l m e f =
       let v = drop i (part d start n) in
       let a : l ≡ before 10 v = e ∙ ap (before 10) (sym (part-drop d start n i)) in
       let b : max l best ≡ max (0 + before 10 v) best = omega arith in

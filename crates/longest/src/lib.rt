@@ -3,45 +3,25 @@
 // all up to the last such line feed; a line that has none is measured.
 #![tactic(auto)]
 
-ghost use Rattle.std.specs.Prelude.{if◌then◌else◌, ◌≡◌, true, ◌+◌, ◌*◌, ◌^◌, ◌≤◌, ◌<◌, min, max, eqb, length, replicate};
+ghost use Rattle.std.specs.Prelude.{◌≡◌, true, ◌+◌, ◌*◌, ◌^◌, ◌≤◌, ◌<◌, length, replicate};
 ghost use Rattle.rules.specs.Base.{same};
 ghost use Rattle.rules.specs.Columns.{longest_from};
 ghost use Rattle.ascii.specs.Part.{part};
 ghost use Rattle.longest.specs.Short.{Passed, Last};
 ghost use Rattle.longest.specs.Flags.{Flags, Flagged, Widened, Reached, AllSet};
 
-use ascii::{find, in_run};
+use ascii::find;
+use memchr::memrchr;
 
-pub fn larger(a: usize, b: usize) -> usize
-    ensures { result ≡ max a b }
-{
-    if a < b { b } else { a }
-}
-
-pub fn least(a: usize, b: usize) -> usize
-    ensures { result ≡ min a b }
-{
-    if a < b { a } else { b }
-}
-
-pub fn equal(a: u8, b: u8) -> u8
-    ensures { (result ≡ (if eqb a b then 1 else 0)) × (result ≤ 1) }
-{
-    if a == b { 1 } else { 0 }
-}
-
-// No branch for each byte.
 pub fn all_are(text: &[u8], start: usize, n: usize, b: u8) -> bool
     requires { start + n ≤ length text.now }
     ensures { result ≡ same (part text.now start n) (replicate n b) }
 {
-    let mut all: u8 = 0;
-    let mut i = 0;
-    while i < n {
-        all |= text[start + i] ^ b;
-        i += 1;
-    }
-    all == 0
+    // No branch for each byte.
+    text[start..start + n]
+        .iter()
+        .fold(0, |all, x| all | (x ^ b))
+        == 0
 }
 
 // ---- a line feed in every window
@@ -52,10 +32,8 @@ fn flags(text: &[u8], at: usize, far: usize) -> u8
     ensures { Flags text.now at far result }
 {
     let mut bits: u8 = 0;
-    let mut k = 8;
-    while 0 < k {
-        k -= 1;
-        bits = bits + bits + equal(text[at + k * far], 10);
+    for k in (0..8).rev() {
+        bits = bits + bits + u8::from(text[at + k * far] == 10);
     }
     bits
 }
@@ -65,10 +43,8 @@ fn flag(to: &mut [u8], text: &[u8], start: usize, far: usize, n: usize)
     requires { (n ≤ length to.old) × (start + 7 * far + n ≤ length text.now) }
     ensures { Flagged text.now start far n to.old to.new }
 {
-    let mut j = 0;
-    while j < n {
+    for j in 0..n {
         to[j] = flags(text, start + j, far);
-        j += 1;
     }
 }
 
@@ -77,10 +53,8 @@ fn widen(to: &mut [u8], n: usize, by: usize)
     requires { n + by ≤ length to.old }
     ensures { Widened to.old n by to.new }
 {
-    let mut j = 0;
-    while j < n {
+    for j in 0..n {
         to[j] |= to[j + by];
-        j += 1;
     }
 }
 
@@ -111,15 +85,14 @@ fn reached(to: &mut [u8], n: usize, w: usize) -> usize
 }
 
 // Whether of n bytes each flag is set, in the byte or in the one `by` on.
+#[tactic(auto, using(crate::proofs::FlagLaws::by_set))]
 fn all_flagged(flagged: &[u8], n: usize, by: usize) -> bool
     requires { n + by ≤ length flagged.now }
     ensures { result ≡ true → AllSet flagged.now n by }
 {
     let mut unset: u8 = 0;
-    let mut j = 0;
-    while j < n {
+    for j in 0..n {
         unset |= (flagged[j] | flagged[j + by]) ^ 255;
-        j += 1;
     }
     unset == 0
 }
@@ -140,7 +113,7 @@ fn short_lines(text: &[u8], start: usize, n: usize, best: usize) -> usize
         return 0;
     }
     let more = (best / 16 + 1) * 16;
-    let far = least((n - more) / 128 * 16, 512);
+    let far = ((n - more) / 128 * 16).min(512);
     let mut flagged: [u8; 704] = [0; 704];
     flag(&mut flagged, text, start, far, far + more);
     let h = reached(&mut flagged, far + more, best + 1);
@@ -157,24 +130,12 @@ pub fn past_last(text: &[u8], start: usize, n: usize) -> usize
     requires { start + n ≤ length text.now }
     ensures { Last text.now start n result }
 {
-    let mut j = n;
-    while 16 <= j {
-        if in_run(text, start + j - 16, 16, 10, 10) {
-            break;
-        }
-        j -= 16;
-    }
-    while 0 < j {
-        if text[start + j - 1] == 10 {
-            return j;
-        }
-        j -= 1;
-    }
-    j
+    memrchr(10, &text[start..start + n]).map_or(0, |i| i + 1)
 }
 
 // ---- the whole
 
+#[tactic(auto, using(crate::proofs::LongestLaws::passed_rest, crate::proofs::LongestLaws::by_last))]
 fn passed_lines(text: &[u8], start: usize, n: usize, best: usize) -> usize
     requires { start + n ≤ length text.now }
     ensures { Passed text.now start n best result }
@@ -185,12 +146,14 @@ fn passed_lines(text: &[u8], start: usize, n: usize, best: usize) -> usize
     past_last(text, start, best + 1)
 }
 
+#[tactic(auto, using(crate::proofs::LongestLaws::by_run, crate::proofs::LongestLaws::by_line, crate::proofs::LongestLaws::by_end))]
 pub fn longest_line(text: &[u8], start: usize, n: usize, known: usize) -> usize
     requires { (start + n ≤ length text.now) × (n < 2 ^ 63) }
     ensures { result ≡ longest_from 0 known (part text.now start n) }
 {
     let mut best = known;
     let mut i = short_lines(text, start, n, known);
+    // Steps of no fixed length: a `while`.
     while i < n {
         let run = passed_lines(text, start + i, n - i, best);
         if run != 0 {
@@ -198,7 +161,7 @@ pub fn longest_line(text: &[u8], start: usize, n: usize, known: usize) -> usize
             continue;
         }
         let line = find(text, start + i, n - i, 10);
-        best = larger(line, best);
+        best = best.max(line);
         i += line + 1;
     }
     best

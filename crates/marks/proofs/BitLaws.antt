@@ -2,7 +2,7 @@
 use mathlib.Core.Path.{◌≡◌, refl, sym, ap, ◌∙◌}
 use mathlib.Core.Bool.{Bool, true, false, ◌&&◌, ◌||◌}
 use mathlib.Core.List.{List}
-use Prim.Native.Nat.{ℕ, zero, suc, ◌+◌, ◌-◌, ◌*◌, ◌/◌, ◌%◌, ◌^◌, ◌≤◌, ◌<◌, min, max}
+use Prim.Native.Nat.{ℕ, suc, ◌+◌, ◌-◌, ◌*◌, ◌/◌, ◌%◌, ◌^◌, ◌≤◌, ◌<◌, min, max}
 use native.Mathlib.Nat.{mod-lt, mod-eq_of_lt, div-eq_of_lt, lt_of_lt_of_le, mul_assoc}
 use native.Mathlib.Omega.{arith}
 use lib.Dec.{eqb, leb, ltb, lit<}
@@ -11,20 +11,14 @@ use lib.Pow.{pow_mono, pow-lt, pow-add, shl-shr, shr-shr, shl_lt, high, ones_spl
 use lib.Bits.{bit_or, or_step, or_shr, shifted_even}
 use lib.ListN.{length, set}
 use lib.Seq.{get_or-set_same, get_or-set_other}
-use borrow.Author.Tests.{le-leb, leb-true, leb-false, ltb-true, ltb-false}
-use Rattle.marks.proofs.TestLaws.{same-below}
+use borrow.Author.Tests.{leb-true, leb-false, ltb-true, ltb-false}
+use Rattle.std.proofs.lemmas.Bool.Decides.{nat_tests}
 use Rattle.marks.specs.Marks.{bit_at, bit_of}
 
 -- ---- two words together
 
 digit_or : (p q : ℕ) → p < 2 → q < 2 → eqb (max p q) 1 ≡ (eqb p 1 || eqb q 1)
-digit_or zero zero hp hq = refl
-digit_or zero (suc zero) hp hq = refl
-digit_or zero (suc (suc q)) hp hq = absurd (omega arith)
-digit_or (suc zero) zero hp hq = refl
-digit_or (suc zero) (suc zero) hp hq = refl
-digit_or (suc zero) (suc (suc q)) hp hq = absurd (omega arith)
-digit_or (suc (suc p)) q hp hq = absurd (omega arith)
+digit_or p q hp hq = grind (arith, nat_tests)
 
 pub bit-or : (a b i : ℕ) → bit_at (bit_or a b) i ≡ (bit_at a i || bit_at b i)
 unfolding bit_at
@@ -93,10 +87,11 @@ module _ (from n : ℕ) where
         by_tests true false p q = bit_past (leb-true from i p) (ltb-false i (from + n) q)
 
 -- the first n bits; those that stand for numbers below `reach`
-pub reach-bits : (reach first n r : ℕ) → n ≡ min 32 (reach - first) → r ≡ (2 ^ n - 1) * 2 ^ 0 → (i : ℕ) → i < 32 → bit_at r i ≡ ltb (first + i) reach
-reach-bits reach first n r e f i h =
-    let z : 0 + n ≡ n = omega arith in
-    ap (λ (x : ℕ). bit_at x i) f ∙ run-bit 0 n i ∙ rw (le-leb 0 i (omega arith), z) (same-below i n (first + i) reach (λ l. omega arith) (λ l. omega arith))
+reach-test : (reach first n i : ℕ) → n ≡ min (reach - first) 32 → i < 32 → (leb 0 i && ltb i (0 + n)) ≡ ltb (first + i) reach
+reach-test reach first n i e h = grind (arith, nat_tests)
+
+pub reach_bits : (reach first n r : ℕ) → n ≡ min (reach - first) 32 → r ≡ (2 ^ n - 1) * 2 ^ 0 → (i : ℕ) → i < 32 → bit_at r i ≡ ltb (first + i) reach
+reach_bits reach first n r e f i h = ap (λ (x : ℕ). bit_at x i) f ∙ run-bit 0 n i ∙ reach-test reach first n i e h
 
 -- ---- a list of words after a store
 

@@ -51,8 +51,16 @@ ones-count w (suc n) =
     ∙ add_comm (lib-count.ones (w / 2 ^ n % 2)) (lib-count.ones (w % 2 ^ n))
     ∙ rw (ones-count w n, ones-digit (w / 2 ^ n % 2) (mod-lt (w / 2 ^ n) (lit< tt)))
 
-pub mask_count : (w n r : ℕ) → r ≡ (2 ^ n - 1) * 2 ^ 0 → lib-count.ones (bit_and w r) ≡ count_of (bit_at w) n
-mask_count w n r e = ap (λ (x : ℕ). lib-count.ones (bit_and w x)) (e ∙ mul-one (2 ^ n - 1)) ∙ ap lib-count.ones (and_mask w n) ∙ ones-count w n
+mask-count : (w n r : ℕ) → r ≡ (2 ^ n - 1) * 2 ^ 0 → lib-count.ones (bit_and w r) ≡ count_of (bit_at w) n
+mask-count w n r e = ap (λ (x : ℕ). lib-count.ones (bit_and w x)) (e ∙ mul-one (2 ^ n - 1)) ∙ ap lib-count.ones (and_mask w n) ∙ ones-count w n
+
+pub mask_count : (w n r x : ℕ) → x ≡ lib-count.ones (bit_and w r) → r ≡ (2 ^ n - 1) * 2 ^ 0 → x ≡ count_of (bit_at w) n
+mask_count w n r x f e = f ∙ mask-count w n r e
+
+pub mask-le : (w n r x : ℕ) → x ≡ lib-count.ones (bit_and w r) → r ≡ (2 ^ n - 1) * 2 ^ 0 → x ≤ n
+mask-le w n r x f e = let k = count-le (bit_at w) n in let m = mask_count w n r x f e in omega arith
+
+pub ruleset masks = (mask_count, mask-le)
 
 -- ---- the bits of a list of words
 
@@ -65,13 +73,10 @@ count-split bits k n h = count_add (bit_of bits) (32 * k) n ∙ ap (λ (x : ℕ)
         let e : (32 * k + i) / 32 ≡ k = omega arith in
         let f : (32 * k + i) % 32 ≡ i = omega arith in rw (e, f)
 
-module _ (bits before : List ℕ) (j x y : ℕ) (c : Counted bits before) (h : j < 32768) (ex : x ≡ get_or before (j / 32) 0) (ey : y ≡ count_of (bit_at (get_or bits (j / 32) 0)) (j % 32)) where
-  pub counted-before : x + y ≡ count_of (bit_of bits) j
-  counted-before =
-      let e : 32 * (j / 32) + j % 32 ≡ j = omega arith in
-      let k : j / 32 < 1024 = omega arith in
-      let m : j % 32 ≤ 32 = omega arith in
-      rw (ex, ey, c.counts (j / 32) k, ← count-split bits (j / 32) (j % 32) m, e)
-
-  pub counted-fits : x < 4294967296 → x + y < 2 ^ 64
-  counted-fits l = let k = count-le (bit_at (get_or bits (j / 32) 0)) (j % 32) in let m : j % 32 < 32 = omega arith in omega arith
+pub counted_before : (bits before : List ℕ) (j x y : ℕ) → Counted bits before → j < 32768 → x ≡ get_or before (j / 32) 0 → y ≡ count_of (bit_at (get_or bits (j / 32) 0)) (j % 32)
+    → x + y ≡ count_of (bit_of bits) j
+counted_before bits before j x y c h ex ey =
+    let e : 32 * (j / 32) + j % 32 ≡ j = omega arith in
+    let k : j / 32 < 1024 = omega arith in
+    let m : j % 32 ≤ 32 = omega arith in
+    rw (ex, ey, c.counts (j / 32) k, ← count-split bits (j / 32) (j % 32) m, e)

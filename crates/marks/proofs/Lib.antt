@@ -1,4 +1,3 @@
-pub mod TestLaws
 pub mod BitLaws
 pub mod CountLaws
 pub mod MarkLaws

@@ -12,11 +12,12 @@ use lib.Seq.{get_or-set_same, get_or-set_other}
 use borrow.Author.Tests.{eqb-true, eqb-false}
 use Rattle.marks.specs.Marks.{bit_at, bit_of, reach, marked, count_of, Long, Counted}
 use Rattle.marks.proofs.BitLaws.{bit-or, bit-set-same, bit-set-other}
-use Rattle.marks.proofs.CountLaws.{count-ext, count-le, count-split}
+use Rattle.marks.proofs.CountLaws.{count-ext, count-split}
 
 module _ (bits₀ far : List ℕ) where
   pub record Settled (bits before : List ℕ) (count r k : ℕ) : Type 0 where
     pub in_words : k ≤ 1024
+    pub few : count ≤ 32 * k
     pub bits_long : length bits ≡ 1024
     pub far_long : length far ≡ 1024
     pub before-long : length before ≡ 1024
@@ -30,6 +31,7 @@ module _ (bits₀ far : List ℕ) where
   unfolding reach count_of
   settle_begins before l n = record {
     in_words = omega arith;
+    few = omega arith;
     bits_long = l.bits_long;
     far_long = l.far_long;
     before-long = n;
@@ -41,21 +43,20 @@ module _ (bits₀ far : List ℕ) where
   }
 
   module _ (bits before : List ℕ) (count r k : ℕ) (s : Settled bits before count r k) where
-    pub next_small : (o w : ℕ) → o ≡ count_of (bit_at w) 32 → count + o ≤ 32800
-    next_small o w eo =
-        let e = s.counted in
-        let l = count-le (bit_of bits) (32 * k) in
-        let h = s.in_words in
-        let m = count-le (bit_at w) 32 in omega arith
+    pub settled_all : 1024 ≤ k → Counted bits before
+    settled_all h = record { long = record { bits_long = s.bits_long; far_long = s.before-long }; counts = λ i l. s.counts i (omega arith) }
 
-    pub settle_ends : 1024 ≤ k → Counted bits before × (((j : ℕ) → j < 32768 → bit_of bits j ≡ marked bits₀ far j) × (count ≡ count_of (bit_of bits) 32768))
-    settle_ends h =
+    pub settled_each : 1024 ≤ k → (j : ℕ) → j < 32768 → bit_of bits j ≡ marked bits₀ far j
+    settled_each h j l = s.done j (omega arith)
+
+    pub settled_count : 1024 ≤ k → count ≡ count_of (bit_of bits) 32768
+    settled_count h =
         let w = s.in_words in
         let e : k ≡ 1024 = omega arith in
-        (record { long = record { bits_long = s.bits_long; far_long = s.before-long }; counts = λ i l. s.counts i (omega arith) }, (λ j l. s.done j (omega arith), s.counted ∙ ap (λ (n : ℕ). count_of (bit_of bits) (32 * n)) e))
+        s.counted ∙ ap (λ (n : ℕ). count_of (bit_of bits) (32 * n)) e
 
     -- one word more: x is what reaches into it
-    module _ (x o f r' : ℕ) (h : k < 1024) (ex : (i : ℕ) → i < 32 → bit_at x i ≡ ltb (32 * k + i) r) (eo : o ≡ count_of (bit_at (bit_or (get_or bits k 0) x)) 32) (ef : f ≡ get_or far k 0) (er : r' ≡ max r f) where
+    module _ (x o r' : ℕ) (h : k < 1024) (ex : (i : ℕ) → i < 32 → bit_at x i ≡ ltb (32 * k + i) r) (eo : o ≡ count_of (bit_at (bit_or (get_or bits k 0) x)) 32) (er : r' ≡ max r (get_or far k 0)) where
       abbrev word : ℕ
       word = bit_or (get_or bits k 0) x
 
@@ -103,11 +104,12 @@ module _ (bits₀ far : List ℕ) where
 
       reach-more : r' ≡ reach far (k + 1)
       unfolding reach
-      reach-more = rw (add-one k, er, ef, s.reaches)
+      reach-more = rw (add-one k, er, s.reaches)
 
-      pub settle_on : Settled (set bits k word) (set before k count) (count + o) r' (k + 1)
-      settle_on = record {
+      pub settle_on : o ≤ 32 → Settled (set bits k (bit_or (get_or bits k 0) x)) (set before k count) (count + o) r' (k + 1)
+      settle_on few = record {
         in_words = omega arith;
+        few = let l = s.few in omega arith;
         bits_long = length-set bits k word ∙ s.bits_long;
         far_long = s.far_long;
         before-long = length-set before k count ∙ s.before-long;
@@ -117,3 +119,5 @@ module _ (bits₀ far : List ℕ) where
         counts = counts-more;
         counted = counted-more;
       }
+
+pub ruleset settles = (settle_begins, settle_on, settled_all, settled_each, settled_count)

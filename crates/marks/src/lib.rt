@@ -1,23 +1,8 @@
 // Marks on numbers under 32,768, a bit for each: marking a run takes the same time however long it is, and so does asking how many marks stand before a number.
 #![tactic(auto)]
 
-ghost use Rattle.std.specs.Prelude.{◌≡◌, ◌&&◌, ◌||◌, ℕ, ◌+◌, ◌-◌, ◌*◌, ◌^◌, ◌≤◌, ◌<◌, max, leb, ltb, length};
+ghost use Rattle.std.specs.Prelude.{◌≡◌, ◌&&◌, ◌||◌, ℕ, ◌+◌, ◌-◌, ◌*◌, ◌^◌, ◌≤◌, ◌<◌, leb, ltb, length};
 ghost use Rattle.marks.specs.Marks.{bit_at, bit_of, marked, count_of, Long, Counted};
-
-// ---- numbers
-
-// A word as a number; as a function of its own it brings its bound along.
-fn to_usize(w: u32) -> usize
-    ensures { (result ≡ w) × (result < 4294967296) }
-{
-    w as usize
-}
-
-fn greater(a: usize, b: usize) -> usize
-    ensures { result ≡ max a b }
-{
-    if a < b { b } else { a }
-}
 
 // ---- one word
 
@@ -26,34 +11,31 @@ fn run(from: usize, n: usize) -> u32
     requires { from + n ≤ 32 }
     ensures { result ≡ (2 ^ n - 1) * 2 ^ from }
 {
-    let one: usize = 1;
-    (((one << n) - 1) << from) as u32
+    (((1_usize << n) - 1) << from) as u32
 }
 
 // How many of the first n bits are set.
+#[tactic(auto, using(crate::proofs::CountLaws::masks))]
 fn ones(w: u32, n: usize) -> usize
     requires { n ≤ 32 }
-    ensures { result ≡ count_of (bit_at w) n }
+    ensures value { result ≡ count_of (bit_at w) n }
+    ensures bound { result ≤ n }
 {
-    u32::count_ones(w & run(0, n)) as usize
+    (w & run(0, n)).count_ones() as usize
 }
 
 // The bits of the numbers below `reach`, in the word whose first number is `first`.
+#[tactic(auto, using(crate::proofs::BitLaws::reach_bits))]
 fn reached(reach: usize, first: usize) -> u32
     ensures { (i : ℕ) → i < 32 → bit_at result i ≡ ltb (first + i) reach }
 {
-    if reach <= first {
-        return 0;
-    }
-    if 32 <= reach - first {
-        return run(0, 32);
-    }
-    run(0, reach - first)
+    run(0, reach.saturating_sub(first).min(32))
 }
 
 // ---- marking
 
 // The bits of the run in its first word; where it goes further, its end.
+#[tactic(auto, using(crate::proofs::MarkLaws::marking))]
 pub fn mark(bits: &mut [u32], far: &mut [u32], start: usize, len: usize)
     requires long { Long bits.old far.old }
     requires len_bound { start + len ≤ 32768 }
@@ -66,15 +48,16 @@ pub fn mark(bits: &mut [u32], far: &mut [u32], start: usize, len: usize)
     let word = start / 32;
     let from = start % 32;
     if from + len <= 32 {
-        bits[word] = bits[word] | run(from, len);
+        bits[word] |= run(from, len);
         return;
     }
     let end = start + len;
-    bits[word] = bits[word] | run(from, 32 - from);
-    far[word] = greater(to_usize(far[word]), end) as u32;
+    bits[word] |= run(from, 32 - from);
+    far[word] = far[word].max(end as u32);
 }
 
 // Every mark becomes a bit, and the marks before each word are counted; gives the number of all.
+#[tactic(auto, using(crate::proofs::SettleLaws::settles))]
 pub fn settle(bits: &mut [u32], far: &[u32], before: &mut [u32]) -> usize
     requires long { Long bits.old far.now }
     requires before_len { length before.old ≡ 1024 }
@@ -84,36 +67,35 @@ pub fn settle(bits: &mut [u32], far: &[u32], before: &mut [u32]) -> usize
 {
     let mut count = 0;
     let mut reach = 0;
-    let mut k = 0;
-    while k < 1024 {
+    for k in 0..1024 {
         let word = bits[k] | reached(reach, 32 * k);
         let next = count + ones(word, 32);
         bits[k] = word;
         before[k] = count as u32;
         count = next;
-        reach = greater(reach, to_usize(far[k]));
-        k += 1;
+        reach = reach.max(far[k] as usize);
     }
     count
 }
 
 // ---- asking
 
+#[tactic(auto, unfolding(crate::specs::Marks::bit_at))]
 pub fn is_marked(bits: &[u32], j: usize) -> bool
     requires bits_len { length bits.now ≡ 1024 }
     requires j_bound { j < 32768 }
     ensures { result ≡ bit_of bits.now j }
 {
-    let word = to_usize(bits[j / 32]);
-    (word >> (j % 32)) % 2 == 1
+    (bits[j / 32] >> (j % 32)) % 2 == 1
 }
 
 // How many marks stand before a number.
+#[tactic(auto, using(crate::proofs::CountLaws::counted_before))]
 pub fn marks_before(bits: &[u32], before: &[u32], j: usize) -> usize
     requires counted { Counted bits.now before.now }
     requires j_bound { j < 32768 }
     ensures { result ≡ count_of (bit_of bits.now) j }
 {
     let k = j / 32;
-    to_usize(before[k]) + ones(bits[k], j % 32)
+    before[k] as usize + ones(bits[k], j % 32)
 }

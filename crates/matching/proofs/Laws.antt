@@ -1,26 +1,18 @@
 -- What a reader of `reach` may say of its result. Assumes nothing.
-use mathlib.Core.Path.{◌≡◌, refl, sym, ap, ◌∙◌}
-use mathlib.Core.Bool.{Bool, true, false, false≢true}
-use mathlib.Core.Option.{Option, none, some}
-use mathlib.Core.List.{List, [], ◌∷◌}
-use Prim.Native.Nat.{ℕ, suc, ◌+◌, ◌-◌, ◌≤◌, ◌<◌}
-use native.Mathlib.Omega.{arith}
-use lib.Dec.{eqb, leb}
-use lib.ListN.{length, drop, length-drop}
-use lib.Seq.{drop-cons}
-use Rattle.rules.specs.Base.{find}
+use Rattle.std.proofs.Common.{◌≡◌, refl, sym, ap, ◌∙◌, Bool, true, false, Option, None, Some, List, [], ◌∷◌, ℕ, suc, ◌-◌, ◌≤◌, eqb, length, drop, arith}
+use Rattle.std.proofs.Math.Seq.{drop-cons}
+use Rattle.std.proofs.lemmas.List.{length-drop}
 use Rattle.std.specs.Prelude.{if◌then◌else◌}
 use Rattle.rules.specs.Due.{white, strip}
 use Rattle.foreign.specs.Foreign.{begins}
-use Rattle.matching.specs.declared.Reached.{Reached}
-use Rattle.matching.specs.Read.{low_bytes, read_to, reached_of}
+use Rattle.matching.specs.Read.{read_to}
 
 -- ---- the reading, held against `begins`
 
 -- a reading of v, rest being what is left of the text before it, white bytes taken out: whether it begins with v, and what is left then
 abbrev pub ReadsAs : List ℕ → List ℕ → List ℕ → Option ℕ → Type 0
-ReadsAs v rest text none = begins v rest ≡ false
-ReadsAs v rest text (some at) = (begins v rest ≡ true) × ((strip (drop at text) ≡ drop (length v) rest) × (at ≤ length text))
+ReadsAs v rest text None = begins v rest ≡ false
+ReadsAs v rest text (Some at) = (begins v rest ≡ true) × ((strip (drop at text) ≡ drop (length v) rest) × (at ≤ length text))
 
 tail_drop : (text part : List ℕ) (at y : ℕ) → drop at text ≡ y ∷ part → (drop (suc at) text ≡ part) × (suc at ≤ length text)
 tail_drop text part at y h =
@@ -30,8 +22,8 @@ tail_drop text part at y h =
 
 one_more : (x y : ℕ) (v rest text : List ℕ) (o : Option ℕ) → eqb x y ≡ true → ReadsAs v rest text o → ReadsAs (x ∷ v) (y ∷ rest) text o
 unfolding begins
-one_more x y v rest text none q r = rw q r
-one_more x y v rest text (some at) q r = (rw q r.0, r.1)
+one_more x y v rest text None q r = rw q r
+one_more x y v rest text (Some at) q r = (rw q r.0, r.1)
 
 read_is : (v part text : List ℕ) (at : ℕ) → drop at text ≡ part → at ≤ length text → ReadsAs v (strip part) text (read_to v at part)
 unfolding read_to begins
@@ -42,46 +34,18 @@ read_is (x ∷ v) (y ∷ part) text at h l =
     go (white y) (eqb x y) refl (read_is (x ∷ v) part text (suc at) t.0 t.1) (read_is v part text (suc at) t.0 t.1)
   where
     go : (w e : Bool) → eqb x y ≡ e → ReadsAs (x ∷ v) (strip part) text (read_to (x ∷ v) (suc at) part) → ReadsAs v (strip part) text (read_to v (suc at) part)
-        → ReadsAs (x ∷ v) (if w then strip part else y ∷ strip part) text (if w then read_to (x ∷ v) (suc at) part else if e then read_to v (suc at) part else none)
+        → ReadsAs (x ∷ v) (if w then strip part else y ∷ strip part) text (if w then read_to (x ∷ v) (suc at) part else if e then read_to v (suc at) part else None)
     go true e q same next = same
     go false true q same next = one_more x y v (strip part) text (read_to v (suc at) part) q next
     go false false q same next = rw q
 
--- r reads v from a byte of the text on
-module _ (v text : List ℕ) (from : ℕ) (l : from ≤ length text) (r : Reached) (e : r ≡ reached_of (read_to v from (drop from text))) where
-  -- whether it begins with v
-  pub reached-all : r.all ≡ begins v (strip (drop from text))
-  unfolding reached_of
-  reached-all = rw e (go (read_to v from (drop from text)) (read_is v (drop from text) text from refl l))
-    where
-      go : (o : Option ℕ) → ReadsAs v (strip (drop from text)) text o → (reached_of o).all ≡ begins v (strip (drop from text))
-      go none h = sym h
-      go (some at) h = sym h.0
+-- r reads v from a byte of the text on: it begins with v and so much is left, or it does not begin with v
+module _ (v text : List ℕ) (from : ℕ) (l : from ≤ length text) (r : Option ℕ) (e : r ≡ read_to v from (drop from text)) where
+  reads : ReadsAs v (strip (drop from text)) text r
+  reads = rw e (read_is v (drop from text) text from refl l)
 
-  -- what is left then
-  pub reached-left : r.all ≡ true → (strip (drop r.at text) ≡ drop (length v) (strip (drop from text))) × (r.at ≤ length text)
-  unfolding reached_of
-  reached-left = rw e (go (read_to v from (drop from text)) (read_is v (drop from text) text from refl l))
-    where
-      go : (o : Option ℕ) → ReadsAs v (strip (drop from text)) text o → (reached_of o).all ≡ true → (strip (drop (reached_of o).at text) ≡ drop (length v) (strip (drop from text))) × ((reached_of o).at ≤ length text)
-      go none h z = absurd (false≢true z)
-      go (some at) h z = h.1
+  pub reached-some : (at : ℕ) → r ≡ Some at → (begins v (strip (drop from text)) ≡ true) × ((strip (drop at text) ≡ drop (length v) (strip (drop from text))) × (at ≤ length text))
+  reached-some at z = rw z at reads
 
--- ---- the first byte of 128 or more
-
-pub low-found : (n : ℕ) (v : List ℕ) → low_bytes v < length v → find (leb 128) n v ≡ some (n + low_bytes v)
-low-found n [] h = absurd (omega arith)
-low-found n (x ∷ v) h = go (leb 128 x) h (low-found (suc n) v)
-  where
-    go : (b : Bool) → (if b then 0 else suc (low_bytes v)) < suc (length v) → (low_bytes v < length v → find (leb 128) (suc n) v ≡ some (suc n + low_bytes v))
-        → (if b then some n else find (leb 128) (suc n) v) ≡ some (n + (if b then 0 else suc (low_bytes v)))
-    go true k ih = ap (λ (m : ℕ). some m) (omega arith)
-    go false k ih = ih (omega arith) ∙ ap (λ (m : ℕ). some m) (omega arith)
-
-pub low-none : (n : ℕ) (v : List ℕ) → length v ≤ low_bytes v → find (leb 128) n v ≡ none
-low-none n [] h = refl
-low-none n (x ∷ v) h = go (leb 128 x) h (low-none (suc n) v)
-  where
-    go : (b : Bool) → suc (length v) ≤ (if b then 0 else suc (low_bytes v)) → (length v ≤ low_bytes v → find (leb 128) (suc n) v ≡ none) → (if b then some n else find (leb 128) (suc n) v) ≡ none
-    go true k ih = absurd (omega arith)
-    go false k ih = ih (omega arith)
+  pub reached-none : r ≡ None → begins v (strip (drop from text)) ≡ false
+  reached-none z = rw z at reads

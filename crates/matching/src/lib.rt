@@ -1,77 +1,64 @@
 // Wish 13: how far a text goes on with the bytes of a place, white bytes left out on both sides. Nothing is read twice.
 #![tactic(auto)]
 
-ghost use Rattle.std.specs.Prelude.{◌≡◌, [], ◌+◌, ◌≤◌, leb, length, drop};
-ghost use Rattle.rules.specs.Base.{any_of, same};
+ghost use Rattle.std.specs.Prelude.{◌≡◌, [], ◌+◌, ◌≤◌, bit_or, leb, fold, position, length, drop};
+ghost use Rattle.rules.specs.Base.{any_of, find, same};
 ghost use Rattle.rules.specs.Text.{in_case};
 ghost use Rattle.rules.specs.Due.{strip};
 ghost use Rattle.ascii.specs.Part.{part};
-ghost use Rattle.matching.specs.Read.{low_bytes, read_to, reached_of, Skipped, Byte};
+ghost use Rattle.matching.specs.Read.{read_to, Skipped, Byte};
 
 use ascii::{in_case, is_white};
 use rules::Case;
 
-// Whether the text goes on with some bytes, and how much of it is read then; 0 if it does not.
-#[derive(Drop)]
-pub struct Reached {
-    pub all: bool,
-    pub at: usize,
-}
-
 // ---- refusal 15
 
-// No branch for each byte, so that many are looked at at once.
-fn any_high(s: &[u8], from: usize, n: usize) -> bool
-    requires { from + n ≤ length s.now }
-    ensures { result ≡ any_of (leb 128) (part s.now from n) }
+// All bytes together, with no branch for each, so that many are looked at at once.
+fn taken(s: &[u8]) -> u8
+    ensures { result ≡ fold bit_or 0 s.now }
 {
-    let mut all: u8 = 0;
-    let mut i: usize = 0;
-    while i < n {
-        all |= s[from + i];
-        i += 1;
-    }
-    all >= 128
+    s.iter().fold(0, |all, b| all | *b)
 }
 
-// How many bytes stand before the first of 128 or more.
-pub fn low_bytes(s: &[u8]) -> usize
-    ensures { (result ≡ low_bytes s.now) × (result ≤ length s.now) }
+fn high_from(s: &[u8]) -> Option<usize>
+    ensures { result ≡ position (leb 128) s.now }
 {
-    let n = s.len();
-    let mut i: usize = 0;
-    while 64 <= n - i {
-        if any_high(s, i, 64) {
+    s.iter().position(|b| *b >= 128)
+}
+
+// The first byte of 128 or more. Blocks of 64 without one are passed whole.
+#[tactic(auto, using(crate::proofs::HighLaws::highs))]
+pub fn first_high(s: &[u8]) -> Option<usize>
+    ensures { result ≡ find (leb 128) 0 s.now }
+{
+    let mut rest = s;
+    while let Some((block, after)) = rest.split_first_chunk::<64>() {
+        if taken(block) >= 128 {
             break;
         }
-        i += 64;
+        rest = after;
     }
-    while i < n {
-        if s[i] >= 128 {
-            return i;
-        }
-        i += 1;
-    }
-    i
+    let at = high_from(rest)?;
+    Some(s.len() - rest.len() + at)
 }
 
 // ---- the text
 
+#[tactic(auto, using(crate::proofs::ReadLaws::skips))]
 fn skip_white(text: &[u8], from: usize) -> usize
     requires { from ≤ length text.now }
     ensures { Skipped text.now from result }
 {
-    let mut at = from;
-    while at < text.len() {
+    for at in from..text.len() {
         if !is_white(text[at]) {
             return at;
         }
-        at += 1;
     }
-    at
+    text.len()
 }
 
 // Nothing is left but white bytes.
+#[tactic(auto, using(crate::proofs::ReadLaws::none_left))]
 pub fn only_white(text: &[u8], from: usize) -> bool
     requires { from ≤ length text.now }
     ensures { result ≡ same [] (strip (drop from text.now)) }
@@ -80,30 +67,23 @@ pub fn only_white(text: &[u8], from: usize) -> bool
 }
 
 // One byte: a white one is always there.
-fn reach_byte(b: u8, text: &[u8], from: usize) -> Reached
+#[tactic(auto, using(crate::proofs::ReadLaws::bytes_read))]
+fn reach_byte(b: u8, text: &[u8], from: usize) -> Option<usize>
     requires { from ≤ length text.now }
     ensures { Byte b text.now from result }
 {
     if is_white(b) {
-        return Reached {
-            all: true,
-            at: from,
-        };
+        return Some(from);
     }
     let at = skip_white(text, from);
-    if at == text.len() {
-        return Reached { all: false, at: 0 };
+    if at < text.len() && text[at] == b {
+        return Some(at + 1);
     }
-    if text[at] != b {
-        return Reached { all: false, at: 0 };
-    }
-    Reached {
-        all: true,
-        at: at + 1,
-    }
+    None
 }
 
-// The n bytes of the sheet from start on, in a case.
+// Where the text has gone on with n bytes of the sheet from start on, in a case; none if it does not.
+#[tactic(auto, using(crate::proofs::ReadLaws::readings))]
 pub fn reach(
     sheet: &[u8],
     start: usize,
@@ -111,19 +91,13 @@ pub fn reach(
     casing: Case,
     text: &[u8],
     from: usize,
-) -> Reached
+) -> Option<usize>
     requires { (start + n ≤ length sheet.now) × (from ≤ length text.now) }
-    ensures { result ≡ reached_of (read_to (strip (in_case casing (part sheet.now start n))) from (drop from text.now)) }
+    ensures { result ≡ read_to (strip (in_case casing (part sheet.now start n))) from (drop from text.now) }
 {
     let mut at = from;
-    let mut i: usize = 0;
-    while i < n {
-        let one = reach_byte(in_case(casing, sheet[start + i]), text, at);
-        if !one.all {
-            return Reached { all: false, at: 0 };
-        }
-        at = one.at;
-        i += 1;
+    for b in &sheet[start..start + n] {
+        at = reach_byte(in_case(casing, *b), text, at)?;
     }
-    Reached { all: true, at }
+    Some(at)
 }

@@ -1,73 +1,39 @@
--- The ways through the call. Assumes nothing.
-use mathlib.Core.Path.{◌≡◌, refl, sym, ap, ◌∙◌}
-use mathlib.Core.List.{List}
-use Prim.Native.Nat.{ℕ, ◌*◌, ◌≤◌, ◌<◌}
-use lib.ListN.{length, replicate}
+-- What the call is. Assumes nothing.
+use Rattle.std.proofs.Common.{◌≡◌, refl, ℕ, List, map, ◌*◌, ◌≤◌, ◌<◌, length, Option, None, Some, true}
+use Rattle.std.specs.Prelude.{is_some}
+use Rattle.std.proofs.lemmas.List.{length-map}
 use borrow.Author.Tests.{lt-ltb, le-ltb}
-use Rattle.rules.specs.declared.Counts.{Counts}
-use Rattle.rules.specs.declared.Offence.{Offence}
-use Rattle.rules.specs.declared.Offence.TheVariants.{At, Nowhere}
-use Rattle.rules.specs.declared.Outcome.{Outcome}
+use Rattle.rules.specs.Words.{counts_of}
 use Rattle.rules.specs.Checks.{sizes}
-use Rattle.checks.specs.Sound.{Sized}
-use Rattle.mended.specs.Mended.{mended, Mending, mends, refusal, mend_from, mend, mend_outcome, sheet_after, report_after}
-use Rattle.mend.specs.Items.{rows_of, report_of}
-
--- all that the call promises
-abbrev Told : Mending → List ℕ → ℕ → Outcome → List ℕ → List ℕ → Type 0
-Told m s k r u d = (r ≡ mend_outcome m) × ((u ≡ sheet_after s m) × (d ≡ report_after k m))
-
-refused : (m : Mending) (s : List ℕ) (k n : ℕ) (d : List ℕ) → m ≡ refusal n → d ≡ replicate k 0 → Told m s k (record { refusal = n; place = 0; length = 0 }) s d
-unfolding mend_outcome sheet_after report_after
-refused m s k n d e z = rw e (refl, (refl, z))
-
--- what stands in the report, by its own length
-pub own-length : (s : List ℕ) (c : Counts) (d r : List ℕ) → length r ≡ length d → r ≡ report_of s c (length d) → r ≡ report_of s c (length r)
-own-length s c d r l e = e ∙ ap (report_of s c) (sym l)
-
-pub own-zeros : (d r : List ℕ) → length r ≡ length d → r ≡ replicate (length d) 0 → r ≡ replicate (length r) 0
-own-zeros d r l e = e ∙ ap (λ (n : ℕ). replicate n 0) (sym l)
+use Rattle.word_bytes.proofs.WordLaws.{Small}
+use Rattle.mended.specs.Mended.{mended, mends, refusal, mend_from, mend, mend_outcome, report_after}
+use Rattle.mend.specs.Items.{changed_in, row_of, report_of}
+use Rattle.mend.proofs.WriteLaws.{rows_are}
 
 module _ (s : List ℕ) (k : ℕ) where
-  -- ---- past check 1
+  pub one : is_some (sizes s) ≡ true → mend s k ≡ refusal 1
+  unfolding mend mend_from
+  one h = by-size (sizes s) h
+    where
+      by-size : (o : Option ℕ) → is_some o ≡ true → mend_from s k o ≡ refusal 1
+      by-size None e = cc
+      by-size (Some p) e = refl
 
-  module _ (c : Counts) (h : Sized s c) (n : ℕ) (en : n ≡ length (rows_of s c)) where
-    thirteen : k < 3 * n → mend_from s k Nowhere ≡ refusal 13
-    unfolding mend_from
-    thirteen l = rw (← h.counted, ← en, lt-ltb k (3 * n) l)
-
-    module _ (l : k < 3 * n) where
-      pub thirteen-outcome : record { refusal = 13; place = 0; length = 0 } ≡ mend_outcome (mend_from s k Nowhere)
-      unfolding mend_outcome
-      thirteen-outcome = rw (thirteen l)
-
-      pub thirteen-sheet : s ≡ sheet_after s (mend_from s k Nowhere)
-      unfolding sheet_after
-      thirteen-sheet = rw (thirteen l)
-
-      pub thirteen-report : (d : List ℕ) → d ≡ replicate k 0 → d ≡ report_after k (mend_from s k Nowhere)
-      unfolding report_after
-      thirteen-report d z = rw (thirteen l) z
-
-    all_fit : 3 * n ≤ k → mend_from s k Nowhere ≡ mends (mended s c) (rows_of s c)
-    unfolding mend_from
-    all_fit l = rw (← h.counted, ← en, le-ltb k (3 * n) l)
-
-    pub by-mended : (u d : List ℕ) → 3 * n ≤ k → u ≡ mended s c → d ≡ report_of s c k → Told (mend_from s k Nowhere) s k (record { refusal = 0; place = 0; length = n }) u d
-    unfolding mend_outcome sheet_after report_after report_of
-    by-mended u d l eu ed = rw (all_fit l) (ap (λ (m : ℕ). record { refusal = 0; place = 0; length = m }) en, (eu, ed))
-
-  -- ---- check 1
-
-  module _ (o : Offence) (eo : o ≡ sizes s) where
-    one : (p : ℕ) → o ≡ At p → mend s k ≡ refusal 1
+  module _ (h : sizes s ≡ None) (small : Small s) where
+    pub thirteen : k < 3 * length (changed_in s (counts_of s)) → mend s k ≡ refusal 13
     unfolding mend mend_from
-    one p e = rw (sym eo ∙ e)
+    thirteen l = rw (h, rows_are s (counts_of s) small, length-map, lt-ltb k _ l)
 
-    pub by_one : (p : ℕ) (d : List ℕ) → o ≡ At p → d ≡ replicate k 0 → Told (mend s k) s k (record { refusal = 1; place = 0; length = 0 }) s d
-    by_one p d e z = refused (mend s k) s k 1 d (one p e) z
+    pub all : 3 * length (changed_in s (counts_of s)) ≤ k → mend s k ≡ mends (mended s (counts_of s)) (map row_of (changed_in s (counts_of s)))
+    unfolding mend mend_from
+    all l = rw (h, rows_are s (counts_of s) small, length-map, le-ltb k _ l)
 
-    -- the report may be another list of the same length
-    pub by-sized : (j : ℕ) (r : Outcome) (u d : List ℕ) → j ≡ k → o ≡ Nowhere → Told (mend_from s j Nowhere) s j r u d → Told (mend s k) s k r u d
-    unfolding mend
-    by-sized j r u d ej e t = rw (sym eo ∙ e, ← ej) t
+    pub all_outcome : 3 * length (changed_in s (counts_of s)) ≤ k → mend_outcome (mend s k) ≡ record { refusal = 0; place = 0; length = length (changed_in s (counts_of s)) }
+    unfolding mend_outcome
+    all_outcome l = rw (all l, length-map)
+
+    pub all_report : 3 * length (changed_in s (counts_of s)) ≤ k → report_after k (mend s k) ≡ report_of k (changed_in s (counts_of s))
+    unfolding report_after report_of
+    all_report l = rw (all l, length-map)
+
+pub ruleset outcomes = (one, thirteen, all, all_outcome, all_report)

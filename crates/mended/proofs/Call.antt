@@ -9,11 +9,8 @@ use lib.Dec.{ltb}
 use lib.ListN.{length, replicate}
 use lib.Seq.{drop_at}
 use Rattle.rules.specs.declared.Counts.{Counts}
-use Rattle.rules.specs.declared.Offence.{Offence}
-use Rattle.rules.specs.declared.Offence.TheVariants.{At, Nowhere}
-use Rattle.rules.specs.declared.Checked.TheVariants as found
 use Rattle.rules.specs.declared.Outcome.{Outcome}
-use Rattle.std.specs.Prelude.{if◌then◌else◌}
+use Rattle.std.specs.Prelude.{if◌then◌else◌, None, Option, Some, ℕ, Ok}
 use Rattle.rules.specs.Words.{counts_of}
 use Rattle.rules.specs.Checks.{sizes, checked}
 use Rattle.word_bytes.proofs.WordLaws.{Small}
@@ -29,7 +26,7 @@ unfolding rows_in change_words
 rows_back [] rest = refl
 rows_back (x ∷ xs) rest = ap (λ (l : List Change). x ∷ l) (rows_back xs rest)
 
-length-rows : (rows : List Change) → length (change_words rows) ≡ 3 * length rows
+pub length-rows : (rows : List Change) → length (change_words rows) ≡ 3 * length rows
 unfolding change_words
 length-rows [] = refl
 length-rows (x ∷ xs) = omega (arith, length-rows xs)
@@ -42,24 +39,24 @@ module _ (s : List ℕ) (small : Small s) where
   Says (mends t rows) = GoodSheet s t rows × ((rows ≡ changes s t (counts_of s)) × ((n : ℕ) → mend t n ≡ mends t []))
   Says (refusal n) = n ≡ 0 → ⊥
 
-  enough : sizes s ≡ Nowhere → (short : Bool) → Says (if short then refusal 13 else mends (mended s (counts_of s)) (changes s (mended s (counts_of s)) (counts_of s)))
+  enough : sizes s ≡ None → (short : Bool) → Says (if short then refusal 13 else mends (mended s (counts_of s)) (changes s (mended s (counts_of s)) (counts_of s)))
   unfolding Says
   enough h true = λ z. omega arith
   enough h false =
       let g = good-sheet s small h in
       (g, (refl, untouched-call (mended s (counts_of s)) (small-mended s (counts_of s)) (counts_of s) g.sound))
 
-  says : (k : ℕ) (o : Offence) → sizes s ≡ o → Says (mend_from s k o)
+  says : (k : ℕ) (o : Option ℕ) → sizes s ≡ o → Says (mend_from s k o)
   unfolding Says mend_from
-  says k (At p) h = λ z. omega arith
-  says k Nowhere h = enough h (ltb k (3 * length (changes s (mended s (counts_of s)) (counts_of s))))
+  says k (Some p) h = λ z. omega arith
+  says k None h = enough h (ltb k (3 * length (changes s (mended s (counts_of s)) (counts_of s))))
 
   -- a sound sheet, by the equation of the call on it
   whole : (k : ℕ) (m : Mending) → m ≡ mends s [] → (mend_outcome m ≡ record { refusal = 0; place = 0; length = 0 }) × ((sheet_after s m ≡ s) × (report_after k m ≡ replicate k 0))
   unfolding mend_outcome sheet_after report_after change_words
   whole k m e = rw e (refl, (refl, rw (sub-zero k)))
 
-  mends-so : (k : ℕ) (m : Mending) → Says m → ((c : Counts) → checked s ≡ found.Sound c → m ≡ mends s []) → Mends s k (mend_outcome m) (sheet_after s m) (report_after k m)
+  mends-so : (k : ℕ) (m : Mending) → Says m → ((c : Counts) → checked s ≡ Ok c → m ≡ mends s []) → Mends s k (mend_outcome m) (sheet_after s m) (report_after k m)
   unfolding Says mend_outcome sheet_after report_after
   mends-so k (mends t rows) (good, (all, again)) sound =
       let rest : List ℕ = replicate (k - 3 * length rows) 0 in

@@ -1,4 +1,5 @@
 -- The mended sheet passes checks 1 to 4, and its counts are the old ones. Assumes nothing.
+use Rattle.std.specs.Prelude.{None, Option, ℕ, Ok}
 use mathlib.Core.Path.{◌≡◌, refl, sym, ◌∙◌}
 use mathlib.Core.List.{List}
 use Prim.Native.Nat.{ℕ, zero, suc, ◌+◌, ◌*◌, ◌%◌, ◌<◌}
@@ -7,9 +8,6 @@ use native.Mathlib.Omega.{arith}
 use lib.ListN.{length, get_or}
 use borrow.Author.Tests.{lt-ltb}
 use Rattle.rules.specs.declared.Counts.{Counts}
-use Rattle.rules.specs.declared.Offence.{Offence}
-use Rattle.rules.specs.declared.Offence.TheVariants.{Nowhere}
-use Rattle.rules.specs.declared.Checked.TheVariants as found
 use Rattle.rules.specs.Words.{word_at, place_at, counts_of, class_bits, tokens_at, params_at, keeps_at, body_at}
 use Rattle.rules.specs.Checks.{first_of, sizes, head_words, token_words, param_words, token_places, param_places, keep_places, body_byte, checked_as, checked}
 use Rattle.checks.proofs.Sound.{sizes-pass}
@@ -20,12 +18,12 @@ use Rattle.mended.proofs.Laws.{length-mended, byte-mended}
 use Rattle.mended.proofs.Tables.{new-head, new-token, new-param, new-keep}
 use Rattle.mended.proofs.Passing.{default-in, mode-in, packed_in, place_in, key-a-in, key-b-in, key_in, name_in, name-place-in}
 
-none_first : (f : ℕ → Offence) (size at k : ℕ) → ((i : ℕ) → i < k → f (at + size * i) ≡ Nowhere) → first_of f size at k ≡ Nowhere
+none_first : (f : ℕ → Option ℕ) (size at k : ℕ) → ((i : ℕ) → i < k → f (at + size * i) ≡ None) → first_of f size at k ≡ None
 unfolding first_of
 none_first f size at zero h = refl
 none_first f size at (suc k) h =
     let e : at + size * 0 ≡ at = omega arith in
-    let here : f at ≡ Nowhere = rw e at (h 0 (omega arith)) in
+    let here : f at ≡ None = rw e at (h 0 (omega arith)) in
     rw here (none_first f size (at + size) k (λ i l.
     let o : at + size * suc i ≡ at + size + size * i = omega (arith, mul-suc size i) in
     rw o at (h (suc i) (omega arith))))
@@ -36,7 +34,7 @@ module _ (s : List ℕ) (small : Small s) (c : Counts) where
 
   -- ---- check 2
 
-  head-pass : head_words (mended s c) ≡ Nowhere
+  head-pass : head_words (mended s c) ≡ None
   unfolding head_words mended_head
   head-pass =
       rw (
@@ -61,7 +59,7 @@ module _ (s : List ℕ) (small : Small s) (c : Counts) where
     unfolding mended_token
     packed_new = rw (add-zero (tokens_at + 20 * i)) at (token-new 0 refl (omega arith))
 
-    token-words-pass : token_words (mended s c) (tokens_at + 20 * i) ≡ Nowhere
+    token-words-pass : token_words (mended s c) (tokens_at + 20 * i) ≡ None
     unfolding token_words mended_token
     token-words-pass =
         let at = tokens_at + 20 * i in
@@ -77,7 +75,7 @@ module _ (s : List ℕ) (small : Small s) (c : Counts) where
 
     -- ---- check 3
 
-    token-places-pass : token_places (mended s c) c.bytes (tokens_at + 20 * i) ≡ Nowhere
+    token-places-pass : token_places (mended s c) c.bytes (tokens_at + 20 * i) ≡ None
     unfolding token_places mended_token place_at
     token-places-pass =
         let at = tokens_at + 20 * i in
@@ -102,7 +100,7 @@ module _ (s : List ℕ) (small : Small s) (c : Counts) where
     name_new : word_at (mended s c) (params_at c + 16 * i) ≡ mended_param (mended_mode s) s c.bytes (params_at c + 16 * i) 0
     name_new = rw (add-zero (params_at c + 16 * i)) at (param-new 0 refl (omega arith))
 
-    param-words-pass : param_words (mended s c) (params_at c + 16 * i) ≡ Nowhere
+    param-words-pass : param_words (mended s c) (params_at c + 16 * i) ≡ None
     unfolding param_words mended_head
     param-words-pass =
         let at = params_at c + 16 * i in
@@ -114,7 +112,7 @@ module _ (s : List ℕ) (small : Small s) (c : Counts) where
           name_in s c.bytes at (mended_mode s) 4 (omega arith),
         )
 
-    param-places-pass : param_places (mended s c) c.bytes (params_at c + 16 * i) ≡ Nowhere
+    param-places-pass : param_places (mended s c) c.bytes (params_at c + 16 * i) ≡ None
     unfolding param_places mended_param place_at
     param-places-pass =
         let at = params_at c + 16 * i in
@@ -129,7 +127,7 @@ module _ (s : List ℕ) (small : Small s) (c : Counts) where
           place_in s c.bytes (at + 8),
         )
 
-  keep-places-pass : (i : ℕ) → i < c.keeps → keep_places (mended s c) c.bytes (keeps_at c + 8 * i) ≡ Nowhere
+  keep-places-pass : (i : ℕ) → i < c.keeps → keep_places (mended s c) c.bytes (keeps_at c + 8 * i) ≡ None
   unfolding keep_places place_at
   keep-places-pass i l =
       let at = keeps_at c + 8 * i in
@@ -138,7 +136,7 @@ module _ (s : List ℕ) (small : Small s) (c : Counts) where
 
   -- ---- check 4
 
-  byte-pass : (i : ℕ) → i < c.bytes → body_byte (mended s c) (body_at c + 1 * i) ≡ Nowhere
+  byte-pass : (i : ℕ) → i < c.bytes → body_byte (mended s c) (body_at c + 1 * i) ≡ None
   unfolding body_byte
   byte-pass i l =
       let o : body_at c + 1 * i ≡ body_at c + i = omega arith in
@@ -147,7 +145,7 @@ module _ (s : List ℕ) (small : Small s) (c : Counts) where
 
   -- ---- the three in turn
 
-  all_pass : checked_as (mended s c) c ≡ found.Sound c
+  all_pass : checked_as (mended s c) c ≡ Ok c
   unfolding checked_as
   all_pass =
       let t = mended s c in
@@ -168,10 +166,10 @@ module _ (s : List ℕ) (small : Small s) (c : Counts) where
   unfolding counts_of mended_head
   counts-so = rw (head-new 0 refl (omega arith), head-new 4 refl (omega arith), head-new 8 refl (omega arith), head-new 12 refl (omega arith))
 
-module _ (s : List ℕ) (small : Small s) (h : sizes s ≡ Nowhere) where
+module _ (s : List ℕ) (small : Small s) (h : sizes s ≡ None) where
   pub same_length : length (mended s (counts_of s)) ≡ length s
   same_length = length-mended s (counts_of s) ∙ sym (sizes-pass s h).long
 
-  pub new-sound : checked (mended s (counts_of s)) ≡ found.Sound (counts_of s)
+  pub new-sound : checked (mended s (counts_of s)) ≡ Ok (counts_of s)
   unfolding checked
   new-sound = rw (counts-so s small (counts_of s), same_length, h) (all_pass s small (counts_of s))

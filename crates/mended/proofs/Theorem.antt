@@ -1,13 +1,12 @@
 -- Wish 10: what a mended sheet is to the sheet that it was made of, and that a sound sheet is untouched.
+use Rattle.rules.specs.declared.Offence.TheVariants as offence
+use Rattle.std.specs.Prelude.{None, Option, Some, Ok}
 use mathlib.Core.Path.{◌≡◌, refl, sym}
 use mathlib.Core.List.{List, []}
 use Prim.Native.Nat.{ℕ}
 use native.Mathlib.Omega.{arith}
 use borrow.Author.Tests.{le-ltb}
 use Rattle.rules.specs.declared.Counts.{Counts}
-use Rattle.rules.specs.declared.Offence.{Offence}
-use Rattle.rules.specs.declared.Offence.TheVariants.{At, Nowhere}
-use Rattle.rules.specs.declared.Checked.TheVariants as found
 use Rattle.rules.specs.Words.{counts_of}
 use Rattle.rules.specs.Checks.{sizes, refused_as, checked_as, checked}
 use Rattle.checks.proofs.Sound.{sizes-pass, sound-sheeted}
@@ -22,11 +21,11 @@ use Rattle.mended.proofs.Untouched.{no-changes, stays}
 -- ---- a sound sheet
 
 -- the offence of check 1, where the four checks find none
-sized : (s : List ℕ) (c : Counts) (o : Offence) → refused_as (λ p. found.Size) o (checked_as s (counts_of s)) ≡ found.Sound c → o ≡ Nowhere
-sized s c (At p) h = absurd (let z : ◌≡◌ {A = ℕ} 0 1 = cc in omega arith)
-sized s c Nowhere h = refl
+sized : (s : List ℕ) (c : Counts) (o : Option ℕ) → refused_as (λ p. offence.Size) o (checked_as s (counts_of s)) ≡ Ok c → o ≡ None
+sized s c (Some p) h = cc
+sized s c None h = refl
 
-module _ (s : List ℕ) (small : Small s) (c : Counts) (h : checked s ≡ found.Sound c) where
+module _ (s : List ℕ) (small : Small s) (c : Counts) (h : checked s ≡ Ok c) where
   pub untouched : mended s c ≡ s
   untouched = stays s c (sound-sheeted s c h) small
 
@@ -39,7 +38,7 @@ module _ (s : List ℕ) (small : Small s) (c : Counts) (h : checked s ≡ found.
 
 -- ---- any sheet that passes check 1
 
-pub good-sheet : (s : List ℕ) → Small s → sizes s ≡ Nowhere → GoodSheet s (mended s (counts_of s)) (changes s (mended s (counts_of s)) (counts_of s))
+pub good-sheet : (s : List ℕ) → Small s → sizes s ≡ None → GoodSheet s (mended s (counts_of s)) (changes s (mended s (counts_of s)) (counts_of s))
 good-sheet s small h =
     let c = counts_of s in
     let t = mended s c in

@@ -1,18 +1,14 @@
 -- A sound sheet is mended into itself. Assumes nothing.
-use mathlib.Core.Bool.{Bool, true, false}
 use mathlib.Core.Path.{◌≡◌, refl, ap, sym, ◌∙◌}
 use mathlib.Core.List.{List, []}
 use Prim.Native.Nat.{ℕ, zero, suc, ◌+◌, ◌-◌, ◌*◌, ◌%◌, ◌≤◌, ◌<◌}
-use native.Mathlib.Nat.{add-zero}
 use native.Mathlib.Omega.{arith}
-use lib.Dec.{eqb, ltb}
+use Rattle.std.proofs.lemmas.Bool.Decides.{nat_tests}
 use lib.ListN.{get_or}
-use borrow.Author.Tests.{eqb-true, eqb-false, ltb-true, ltb-false, le-leb, lt-ltb, eq-eqb, ne_eqb}
+use borrow.Author.Tests.{le-leb, eq-eqb}
 use Rattle.rules.specs.declared.Counts.{Counts}
 use Rattle.rules.specs.declared.Place.{Place}
-use Rattle.std.specs.Prelude.{if◌then◌else◌}
-use Rattle.rules.specs.Words.{word_at, place_at, class_bits, kind_bits, upper_bits, key_of, token_from, counts_of, tokens_at, params_at, keeps_at, body_at}
-use Rattle.rules.specs.Checks.{mode_fits}
+use Rattle.rules.specs.Words.{word_at, place_at, class_bits, key_of, token_from, counts_of, tokens_at, params_at, keeps_at, body_at}
 use Rattle.rules.specs.Compacted.{word_count}
 use Rattle.tokens.specs.Placed.{Inside}
 use Rattle.records.specs.Sheeted.{Sheeted}
@@ -29,30 +25,18 @@ module _ (s : List ℕ) (c : Counts) (h : Sheeted s c) where
   unfolding mended_mode counts_of
   mode-same =
       let params : c.params ≡ word_at s 4 = ap (λ (k : Counts). k.params) h.counted in
-      rw (by-test params (eqb (word_at s 16) 0) refl)
-    where
-      by-test : c.params ≡ word_at s 4 → (b : Bool) → eqb (word_at s 16) 0 ≡ b → mode_fits (word_at s 16) (word_at s 4) ≡ true
-      by-test e true z = rw (z, ← e) (eq-eqb c.params 0 (h.mode.none_has (eqb-true (word_at s 16) 0 z)))
-      by-test e false z = rw z (le-leb (word_at s 16) 2 h.mode.mode)
-
-  -- a word that is tested for, or another
-  if-at : (at k x y : ℕ) → x ≡ word_at s k → y ≡ word_at s at → (if eqb at k then x else y) ≡ word_at s at
-  if-at at k x y p q = by-test (eqb at k) refl
-    where
-      by-test : (b : Bool) → eqb at k ≡ b → (if b then x else y) ≡ word_at s at
-      by-test true e = rw (eqb-true at k e) p
-      by-test false e = q
+      let most = h.mode.mode in
+      let none = h.mode.none_has in grind (arith, nat_tests)
 
   head-same : (at : ℕ) → mended_head s at ≡ word_at s at
   unfolding mended_head
   head-same at =
       let o = h.options in
-      rw (le-leb (word_at s 20) 256 o.indent, le-leb (word_at s 24) 2 o.casing, le-leb (word_at s 28) 2 o.inline, le-leb (word_at s 32) 255 o.lines)
-      (if-at at 16 (mended_mode s) _ mode-same
-      (if-at at 20 (word_at s 20) _ refl
-      (if-at at 24 (word_at s 24) _ refl
-      (if-at at 28 (word_at s 28) _ refl
-      (if-at at 32 (word_at s 32) _ refl refl)))))
+      let mode = mode-same in
+      let indent = o.indent in
+      let casing = o.casing in
+      let inline = o.inline in
+      let lines = o.lines in grind (arith, nat_tests)
 
   -- ---- places
 
@@ -64,21 +48,12 @@ module _ (s : List ℕ) (c : Counts) (h : Sheeted s c) where
   part_same : (at j k : ℕ) → j ≤ k → Inside s (body_at c) (place_at s (at + j)) → place_word s c.bytes (at + j) (k - j) ≡ word_at s (at + k)
   part_same at j k l i = let o : at + j + (k - j) ≡ at + k = omega arith in rw o at (place_same (at + j) (k - j) i)
 
-  -- two words that are 0
-  noughts : (at k : ℕ) → word_at s at ≡ 0 → word_at s (at + 4) ≡ 0 → k % 4 ≡ 0 → k < 8 → 0 ≡ word_at s (at + k)
-  noughts at zero p q m l = rw (add-zero at, p)
-  noughts at (suc k) p q m l = let o : suc k ≡ 4 = omega arith in rw (o, q)
-
   -- ---- tokens
 
   key-same : (class at k : ℕ) → (class ≡ 1 → Inside s (body_at c) (place_at s at)) → (class ≡ 0 → word_at s at ≡ 0) → ((class ≡ 1 → ⊥) → word_at s (at + 4) ≡ 0) → k % 4 ≡ 0 → k < 8 → key_word class s c.bytes at k ≡ word_at s (at + k)
   unfolding key_word
-  key-same zero at k named absent last m l = noughts at k (absent refl) (last (λ e. omega arith)) m l
-  key-same (suc zero) at k named absent last m l = place_same at k (named refl)
-  key-same (suc (suc n)) at zero named absent last m l = rw (ne_eqb (suc (suc n)) 1 (λ e. omega arith), ne_eqb (suc (suc n)) 0 (λ e. omega arith), add-zero at)
-  key-same (suc (suc n)) at (suc k) named absent last m l =
-      let o : suc k ≡ 4 = omega arith in
-      rw (ne_eqb (suc (suc n)) 1 (λ e. omega arith), ne_eqb (suc (suc n)) 0 (λ e. omega arith), o, last (λ e. omega arith))
+  key-same class at k named absent last m l =
+      let here : class ≡ 1 → place_word s c.bytes at k ≡ word_at s (at + k) = λ e. place_same at k (named e) in grind (arith, nat_tests)
 
   module _ (i : ℕ) (l : i < c.tokens) where
     abbrev at : ℕ
@@ -88,7 +63,8 @@ module _ (s : List ℕ) (c : Counts) (h : Sheeted s c) where
     unfolding mended_packed
     packed_same =
         let w = h.words i l in
-        rw (le-leb (kind_bits (word_at s at)) 16 w.kind, eq-eqb (upper_bits (word_at s at)) 0 w.upper)
+        let kind = w.kind in
+        let upper = w.upper in grind (arith, nat_tests)
 
     name_in : class_bits (word_at s at) ≡ 1 → Inside s (body_at c) (place_at s (at + 12))
     unfolding token_from key_of place_at
@@ -96,17 +72,16 @@ module _ (s : List ℕ) (c : Counts) (h : Sheeted s c) where
 
     token-same : (k : ℕ) → k % 4 ≡ 0 → k < 20 → mended_token s c.bytes at k ≡ word_at s (at + k)
     unfolding mended_token token_from
-    token-same zero m u = rw (packed_same, add-zero at)
-    token-same (suc k) m u = rw (ne_eqb (suc k) 0 (λ e. omega arith), packed_same) (by-test (ltb (suc k) 12) refl)
-      where
-        by-test : (b : Bool) → ltb (suc k) 12 ≡ b → (if b then place_word s c.bytes (at + 4) (suc k - 4) else key_word (class_bits (word_at s at)) s c.bytes (at + 12) (suc k - 12)) ≡ word_at s (at + suc k)
-        by-test true e = part_same at 4 (suc k) (omega arith) (h.tokens.within i l).value_in
-        by-test false e =
-            let w = h.words i l in
-            let g = ltb-false (suc k) 12 e in
-            let o : at + 12 + 4 ≡ at + 16 = omega arith in
-            let q : at + 12 + (suc k - 12) ≡ at + suc k = omega arith in
-            rw q at (key-same (class_bits (word_at s at)) (at + 12) (suc k - 12) name_in w.absent (λ n. rw o (w.unnamed n)) (omega arith) (omega arith))
+    token-same k m u =
+        let w = h.words i l in
+        let o : at + 12 + 4 ≡ at + 16 = omega arith in
+        let packed = packed_same in
+        let value : 4 ≤ k → place_word s c.bytes (at + 4) (k - 4) ≡ word_at s (at + k) = λ g. part_same at 4 k g (h.tokens.within i l).value_in in
+        let key : 12 ≤ k → key_word (class_bits (word_at s at)) s c.bytes (at + 12) (k - 12) ≡ word_at s (at + k) =
+        λ g. let q : at + 12 + (k - 12) ≡ at + k = omega arith in
+        rw q at (key-same (class_bits (word_at s at)) (at + 12) (k - 12) name_in w.absent (λ n. rw o (w.unnamed n)) (omega arith) (omega arith))
+        in
+        rw packed (grind (arith, nat_tests))
 
   -- ---- parameters
 
@@ -116,14 +91,13 @@ module _ (s : List ℕ) (c : Counts) (h : Sheeted s c) where
 
     param-same : (k : ℕ) → k % 4 ≡ 0 → k < 16 → mended_param (mended_mode s) s c.bytes from k ≡ word_at s (from + k)
     unfolding mended_param place_at
-    param-same k m u = rw mode-same (by-test (ltb k 8) (eqb (word_at s 16) 2) refl refl)
-      where
-        by-test : (b two : Bool) → ltb k 8 ≡ b → eqb (word_at s 16) 2 ≡ two → (if b then (if two then place_word s c.bytes from k else 0) else place_word s c.bytes (from + 8) (k - 8)) ≡ word_at s (from + k)
-        by-test true true e o = place_same from k (h.params.within i l).name_in
-        by-test true false e o =
-            let none = (h.params.within i l).nameless (eqb-false (word_at s 16) 2 o) in
-            noughts from k (ap (λ (p : Place). p.start) none) (ap (λ (p : Place). p.len) none) m (ltb-true k 8 e)
-        by-test false two e o = part_same from 8 k (ltb-false k 8 e) (h.params.within i l).value_in
+    param-same k m u =
+        let name : k < 8 → place_word s c.bytes from k ≡ word_at s (from + k) = λ g. place_same from k (h.params.within i l).name_in in
+        let value : 8 ≤ k → place_word s c.bytes (from + 8) (k - 8) ≡ word_at s (from + k) = λ g. part_same from 8 k g (h.params.within i l).value_in in
+        let none : (word_at s 16 ≡ 2 → ⊥) → (word_at s from ≡ 0) × (word_at s (from + 4) ≡ 0) = λ n.
+        let p = (h.params.within i l).nameless n in (ap (λ (p : Place). p.start) p, ap (λ (p : Place). p.len) p)
+        in
+        rw mode-same (grind (arith, nat_tests))
 
   -- ---- every word and every byte
 
@@ -138,7 +112,7 @@ module _ (s : List ℕ) (c : Counts) (h : Sheeted s c) where
 
   byte-same : (x : ℕ) → x < 128 → mended_byte x ≡ x
   unfolding mended_byte
-  byte-same x l = rw (lt-ltb x 128 l)
+  byte-same x l = grind (arith, nat_tests)
 
   -- ---- so there is no change
 

@@ -1,8 +1,6 @@
 -- Wish 10: what each word and byte of a damaged sheet becomes, and the report.
-use Rattle.std.specs.Prelude.{if◌then◌else◌, false, List, [], ◌∷◌, ◌++◌, ℕ, zero, suc, ◌+◌, ◌-◌, ◌*◌, ◌%◌, eqb, leb, ltb, length, take, drop, replicate, get_or}
+use Rattle.std.specs.Prelude.{if◌then◌else◌, false, List, [], ◌∷◌, ◌++◌, ℕ, zero, suc, ◌+◌, ◌-◌, ◌*◌, ◌%◌, eqb, leb, ltb, length, take, drop, replicate, get_or, None, Option, Some}
 use Rattle.rules.specs.declared.Counts.{Counts}
-use Rattle.rules.specs.declared.Offence.{Offence}
-use Rattle.rules.specs.declared.Offence.TheVariants.{At, Nowhere}
 use Rattle.rules.specs.declared.Outcome.{Outcome}
 use Rattle.rules.specs.Words.{word_at, word_bytes, place_at, class_bits, packed_of, counts_of, params_at, keeps_at, body_at}
 use Rattle.rules.specs.Checks.{sizes, mode_fits, packed_fits, in_body}
@@ -132,9 +130,9 @@ pub data Mending : Type 0 where
   refusal : ℕ → Mending
 
 -- 13: fewer than three words for each change
-unfoldable pub mend_from : List ℕ → ℕ → Offence → Mending
-mend_from s k (At p) = refusal 1
-mend_from s k Nowhere =
+unfoldable pub mend_from : List ℕ → ℕ → Option ℕ → Mending
+mend_from s k (Some p) = refusal 1
+mend_from s k None =
     let t = mended s (counts_of s) in
     let rows = changes s t (counts_of s) in
     if ltb k (3 * length rows) then refusal 13 else mends t rows

@@ -1,7 +1,6 @@
 -- Wish 10 for its reader: what a mended sheet is to the sheet that it was made of, and what the call gives.
-use Rattle.std.specs.Prelude.{◌≡◌, List, [], ◌∷◌, ℕ, zero, suc, ◌-◌, ◌*◌, length, drop, replicate, get_or}
+use Rattle.std.specs.Prelude.{◌≡◌, List, [], ◌∷◌, ℕ, zero, suc, ◌-◌, ◌*◌, length, drop, replicate, get_or, Ok}
 use Rattle.rules.specs.declared.Counts.{Counts}
-use Rattle.rules.specs.declared.Checked.TheVariants as found
 use Rattle.rules.specs.declared.Outcome.{Outcome}
 use Rattle.rules.specs.Words.{counts_of, body_at}
 use Rattle.rules.specs.Checks.{checked}
@@ -15,7 +14,7 @@ rows_in (suc n) ws = record { at = get_or ws 0 0; old = get_or ws 1 0; new = get
 -- sheet t made of sheet s by some rows
 pub record GoodSheet (s t : List ℕ) (rows : List Change) : Type 0 where
   -- it passes checks 1 to 4, and its counts are the old ones
-  pub sound : checked t ≡ found.Sound (counts_of s)
+  pub sound : checked t ≡ Ok (counts_of s)
   -- mending it changes nothing
   pub again : mended t (counts_of t) ≡ t
   -- the rows undone give the old sheet
@@ -34,4 +33,4 @@ pub record Mends (s : List ℕ) (k : ℕ) (r : Outcome) (t report : List ℕ) : 
   -- a refusal leaves the sheet as it came and the report zero
   pub refused : (r.refusal ≡ 0 → ⊥) → (t ≡ s) × (report ≡ replicate k 0)
   -- a sound sheet is not refused, and stays as it was, with no row
-  pub untouched : (c : Counts) → checked s ≡ found.Sound c → (r ≡ record { refusal = 0; place = 0; length = 0 }) × ((t ≡ s) × (report ≡ replicate k 0))
+  pub untouched : (c : Counts) → checked s ≡ Ok c → (r ≡ record { refusal = 0; place = 0; length = 0 }) × ((t ≡ s) × (report ≡ replicate k 0))

@@ -8,7 +8,7 @@ use lib.ListN.{length, get_or, set}
 use Rattle.rules.specs.Text.{line_feeds}
 use Rattle.ascii.specs.Part.{part}
 use Rattle.steps.specs.Steps.{code_of, on_by, feed_of, codes_of, Mapped, Coded, down, rows}
-use Rattle.steps.proofs.ArrayLaws.{mapped_none, mapped_on}
+use Rattle.steps.proofs.ArrayLaws.{mapped_on}
 use Rattle.steps.proofs.StepLaws.{feed_code, rows-part}
 use Rattle.narrow.specs.declared.Lane.{Lane}
 use Rattle.narrow.specs.Narrow.{lane_on, lane_at, Laned, NarrowOn}
@@ -48,9 +48,6 @@ lane-feeds m (b ∷ bs) =
 -- ---- sixteen lanes
 
 module _ (t u c h g f : List ℕ) where
-  pub laned_none : Laned t u 0 c h g f c h g f
-  laned_none = record { columns = mapped_none _ c; largest = mapped_none _ h; inner = mapped_none _ g; feeds = mapped_none _ f }
-
   -- the next lane is still the old one
   same : (k : ℕ) (c' h' g' f' : List ℕ) → Laned t u k c h g f c' h' g' f' → (v : List ℕ) → lane_on (lane_at c' h' g' k) v ≡ lane_on (lane_at c h g k) v
   same k c' h' g' f' s v = rw (s.columns.old k (omega arith), s.largest.old k (omega arith), s.inner.old k (omega arith))

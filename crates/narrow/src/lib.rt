@@ -2,12 +2,11 @@
 // with 128 for the offset above which it stands until a line feed comes.
 #![tactic(auto)]
 
-ghost use Rattle.std.specs.Prelude.{◌≡◌, ◌+◌, ◌*◌, ◌≤◌, ◌<◌, length, get_or};
+ghost use Rattle.std.specs.Prelude.{◌≡◌, ◌+◌, ◌*◌, ◌≤◌, ◌<◌, length};
 ghost use Rattle.steps.specs.Steps.{Below, down};
 ghost use Rattle.narrow.specs.Narrow.{lane_on, Laned, NarrowOn};
 
-use side::side_by_side;
-use steps::{add, codes, feed, larger_u8, on};
+use steps::{add, coded, feed, on};
 
 // A part's column, the largest, the largest without the offset, and the line feeds.
 #[derive(Drop)]
@@ -22,29 +21,21 @@ fn lane_on(t: &[u8; 128], k: usize, from: Lane) -> Lane
     requires { (k < 16) × (from.feeds ≤ 8) }
     ensures { (result ≡ lane_on from (down t.now k 0 8)) × (result.feeds ≤ from.feeds + 8) }
 {
-    let mut at = from.at;
-    let mut top = from.top;
-    let mut inner = from.inner;
-    let mut feeds = from.feeds;
-    let mut i = 0;
-    while i < 8 {
+    let mut lane = from;
+    for i in 0..8 {
         let x = t[16 * i + k];
-        at = on(at, x);
-        top = larger_u8(at, top);
-        inner = larger_u8(at & 127, inner);
-        feeds += feed(x);
-        i += 1;
+        lane.at = on(lane.at, x);
+        lane.top = lane.at.max(lane.top);
+        lane.inner = (lane.at & 127).max(lane.inner);
+        lane.feeds += feed(x);
     }
-    Lane {
-        at,
-        top,
-        inner,
-        feeds,
-    }
+    lane
 }
 
 // A lane at a time, so that the compiler takes all sixteen at once.
-fn sixteen_on(
+// In line for both callers: 1.7 of the time of a text with tabs else.
+#[inline(always)]
+pub fn sixteen_on(
     c: &mut [u8; 16],
     h: &mut [u8; 16],
     g: &mut [u8; 16],
@@ -52,11 +43,9 @@ fn sixteen_on(
     t: &[u8; 128],
     u: &[u8; 128],
 )
-    requires { (length c.old ≡ 16) × (length h.old ≡ 16) × (length g.old ≡ 16) × (length n.old ≡ 16) }
     ensures { Laned t.now u.now 16 c.old h.old g.old n.old c.new h.new g.new n.new }
 {
-    let mut k = 0;
-    while k < 16 {
+    for k in 0..16 {
         let from = Lane {
             at: c[k],
             top: h[k],
@@ -69,7 +58,6 @@ fn sixteen_on(
         h[k] = r.top;
         g[k] = r.inner;
         n[k] = r.feeds;
-        k += 1;
     }
 }
 
@@ -83,15 +71,11 @@ pub fn narrow_block(
     start: usize,
     far: usize,
 )
-    requires { (start + 15 * far + 16 ≤ length text.now) × (length at.old ≡ 16) × (length head.old ≡ 16) × (length best.old ≡ 16) × (length feeds.old ≡ 16) × Below feeds.old 65280 }
+    requires { (start + 15 * far + 16 ≤ length text.now) × Below feeds.old 65280 }
     ensures { NarrowOn text.now start far at.old head.old best.old feeds.old at.new head.new best.new feeds.new }
 {
-    let mut t: [u8; 128] = [0; 128];
-    let mut u: [u8; 128] = [0; 128];
-    side_by_side(&mut t, text, start, far);
-    side_by_side(&mut u, text, start + 8, far);
-    codes(&mut t);
-    codes(&mut u);
+    let t = coded(text, start, far);
+    let u = coded(text, start + 8, far);
     let mut n: [u8; 16] = [0; 16];
     sixteen_on(at, head, best, &mut n, &t, &u);
     add(feeds, &n);

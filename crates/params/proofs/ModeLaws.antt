@@ -2,86 +2,74 @@
 use mathlib.Core.Path.{◌≡◌, refl, sym}
 use mathlib.Core.Bool.{Bool, true, false}
 use mathlib.Core.List.{List, [], ◌∷◌}
-use Prim.Native.Nat.{ℕ, ◌+◌}
+use Prim.Native.Nat.{ℕ}
 use native.Mathlib.Omega.{arith}
 use lib.Dec.{eqb}
 use lib.ListN.{length}
 use borrow.Author.Tests.{ne_eqb}
 use Rattle.rules.specs.declared.PlaceholderKind.{PlaceholderKind}
 use Rattle.rules.specs.declared.PlaceholderKind.TheVariants as key
-use Rattle.rules.specs.declared.OneIndexed.{OneIndexed}
-use Rattle.rules.specs.declared.Index.{Index}
-use Rattle.rules.specs.declared.Token.{Token}
 use Rattle.rules.specs.declared.Counts.{Counts}
-use Rattle.std.specs.Prelude.{if◌then◌else◌}
-use Rattle.rules.specs.Tokens.{Key, named, from_one}
+use Rattle.std.specs.Prelude.{if◌then◌else◌, Option, None, Some}
+use Rattle.rules.specs.Tokens.{named}
 use Rattle.rules.specs.Words.{word_at, body_at}
-use Rattle.rules.specs.Sheet.{body_part, list_of, key_read, Param, QueryParams, None, Indexed, Named, param_of, params_of}
-use Rattle.rules.specs.Params.{advances, is_refused, offends}
+use Rattle.rules.specs.Sheet.{body_part, list_of, key_read, Param, QueryParams, NoParams, Indexed, Named, value_of, param_of, params_of}
+use Rattle.rules.specs.Params.{advances, offends}
 use Rattle.places.proofs.Laws.{length_part}
-use Rattle.params.specs.declared.Found.{Found}
-use Rattle.params.specs.Entries.{KeyIn, takes_next, key_refused, found_of, shown_of}
-
-neither : (f : QueryParams → Bool) → f None ≡ false → ((ps : List Param) → f (Named ps) ≡ false) → (z : Bool) (ps : List Param) → f (if z then None else Named ps) ≡ false
-neither f p q true ps = p
-neither f p q false ps = q ps
+use Rattle.params.specs.declared.Mode.{Mode}
+use Rattle.params.specs.Entries.{mode_from, KeyIn, takes_next, key_refused}
 
 name-advances : (ps : List (List ℕ)) (v : List ℕ) (n : ℕ) → length v ≡ n → advances (Indexed ps) (named v) ≡ eqb n 0
 unfolding advances
 name-advances ps [] n h = rw (← h)
 name-advances ps (x ∷ v) n h = rw (ne_eqb n 0 (λ z. omega arith))
 
-key-advances : (ps : List (List ℕ)) (s : List ℕ) (base : ℕ) (k : PlaceholderKind) → KeyIn s base k → advances (Indexed ps) (key_read s base k) ≡ takes_next k
+key-advances : (ps : List (List ℕ)) (s : List ℕ) (base : ℕ) (k : Option PlaceholderKind) → KeyIn s base k → advances (Indexed ps) (key_read s base k) ≡ takes_next k
 unfolding advances key_read takes_next
-key-advances ps s base key.Absent h = refl
-key-advances ps s base (key.Named p) h = name-advances ps (body_part s base p) p.len (length_part s base p (h.name_in p refl))
-key-advances ps s base (key.Zero n) h = refl
-key-advances ps s base (key.One n) h = refl
+key-advances ps s base None h = refl
+key-advances ps s base (Some (key.Named p)) h = name-advances ps (body_part s base p) p.len (length_part s base p (h.name_in p refl))
+key-advances ps s base (Some (key.Zero n)) h = refl
+key-advances ps s base (Some (key.One n)) h = refl
 
-pub refused-one : (k : PlaceholderKind) (n : OneIndexed) (x : Index) (r : Bool) → k ≡ key.One n → x ≡ from_one n → r ≡ is_refused x → r ≡ key_refused k
-unfolding key_refused
-refused-one k n x r e f g = rw (e, g, f)
-
-key-offends : (ps : List (List ℕ)) (s : List ℕ) (base : ℕ) (k : PlaceholderKind) → key_refused k ≡ offends (Indexed ps) (key_read s base k)
+key-offends : (ps : List (List ℕ)) (s : List ℕ) (base : ℕ) (k : Option PlaceholderKind) → key_refused k ≡ offends (Indexed ps) (key_read s base k)
 unfolding offends key_read key_refused
-key-offends ps s base key.Absent = refl
-key-offends ps s base (key.Named p) = refl
-key-offends ps s base (key.Zero n) = refl
-key-offends ps s base (key.One n) = refl
+key-offends ps s base None = refl
+key-offends ps s base (Some (key.Named p)) = refl
+key-offends ps s base (Some (key.Zero n)) = refl
+key-offends ps s base (Some (key.One n)) = refl
 
-module _ (s : List ℕ) (m : ℕ) (h : m ≡ word_at s 16) where
-  -- ---- another mode
+module _ (s : List ℕ) (c : Counts) where
+  indexed : mode_from (word_at s 16) ≡ Mode.Indexed → params_of s c ≡ Indexed (list_of (value_of s c) 0 c.params)
+  unfolding mode_from params_of
+  indexed = go (eqb (word_at s 16) 0) (eqb (word_at s 16) 1)
+    where
+      go : (z o : Bool) → (if z then Mode.NoParams else if o then Mode.Indexed else Mode.Named) ≡ Mode.Indexed
+          → (if z then NoParams else if o then Indexed (list_of (value_of s c) 0 c.params) else Named (list_of (param_of s c) 0 c.params)) ≡ Indexed (list_of (value_of s c) 0 c.params)
+      go true o e = cc
+      go false true e = refl
+      go false false e = cc
 
-  stays : (c : Counts) (k : Key) → (m ≡ 1 → ⊥) → advances (params_of s c) k ≡ false
-  unfolding params_of advances
-  stays c k o = rw (← h, ne_eqb m 1 o) (neither (λ ps. advances ps k) refl (λ ps. refl) (eqb m 0) (list_of (param_of s c) 0 c.params))
+  -- a test of the parameters that holds in no other mode
+  elsewhere : (f : QueryParams → Bool) → f NoParams ≡ false → ((ps : List Param) → f (Named ps) ≡ false) → (mode_from (word_at s 16) ≡ Mode.Indexed → ⊥) → f (params_of s c) ≡ false
+  unfolding mode_from params_of
+  elsewhere f p q = go (eqb (word_at s 16) 0) (eqb (word_at s 16) 1)
+    where
+      go : (z o : Bool) → ((if z then Mode.NoParams else if o then Mode.Indexed else Mode.Named) ≡ Mode.Indexed → ⊥) → f (if z then NoParams else if o then Indexed (list_of (value_of s c) 0 c.params) else Named (list_of (param_of s c) 0 c.params)) ≡ false
+      go true o n = p
+      go false true n = absurd (n refl)
+      go false false n = q (list_of (param_of s c) 0 c.params)
 
-  pub no-offence : (k : PlaceholderKind) → (m ≡ 1 → ⊥) → (c : Counts) → false ≡ offends (params_of s c) (key_read s (body_at c) k)
-  unfolding params_of offends
-  no-offence k o c = rw (← h, ne_eqb m 1 o) (sym (neither (λ ps. offends ps (key_read s (body_at c) k)) refl (λ ps. refl) (eqb m 0) (list_of (param_of s c) 0 c.params)))
+  module _ (k : Option PlaceholderKind) where
+    pub moves : mode_from (word_at s 16) ≡ Mode.Indexed → KeyIn s (body_at c) k → advances (params_of s c) (key_read s (body_at c) k) ≡ takes_next k
+    moves e h = rw (indexed e) (key-advances _ s (body_at c) k h)
 
-  -- ---- Indexed
+    pub stays : (mode_from (word_at s 16) ≡ Mode.Indexed → ⊥) → advances (params_of s c) (key_read s (body_at c) k) ≡ false
+    unfolding advances
+    stays = elsewhere (λ ps. advances ps (key_read s (body_at c) k)) refl (λ ps. refl)
 
-  by_key : (c : Counts) (k : PlaceholderKind) → KeyIn s (body_at c) k → m ≡ 1 → advances (params_of s c) (key_read s (body_at c) k) ≡ takes_next k
-  unfolding params_of
-  by_key c k kin o = rw (← h, o) (key-advances _ s (body_at c) k kin)
+    pub offence : mode_from (word_at s 16) ≡ Mode.Indexed → offends (params_of s c) (key_read s (body_at c) k) ≡ key_refused k
+    offence e = rw (indexed e) (sym (key-offends _ s (body_at c) k))
 
-  pub by-offence : (k : PlaceholderKind) (r : Bool) → m ≡ 1 → r ≡ key_refused k → (c : Counts) → r ≡ offends (params_of s c) (key_read s (body_at c) k)
-  unfolding params_of
-  by-offence k r o e c = rw (e, ← h, o) (key-offends _ s (body_at c) k)
-
-  -- ---- what is shown
-
-  module _ (c : Counts) (t : Token) (i : ℕ) (f : Found) (hf : f ≡ found_of s c t i) where
-    pub shown-elsewhere : (m ≡ 1 → ⊥) → record { place = f.place; entry = f.entry; index = i } ≡ shown_of s c t i
-    unfolding shown_of
-    shown-elsewhere o = rw (hf, stays c (key_read s (body_at c) t.key) o)
-
-    module _ (o : m ≡ 1) (kin : KeyIn s (body_at c) t.key) (b : Bool) (hb : b ≡ takes_next t.key) where
-      pub shown-next : b ≡ true → record { place = f.place; entry = f.entry; index = i + 1 } ≡ shown_of s c t i
-      unfolding shown_of
-      shown-next e = rw (hf, by_key c t.key kin o, ← hb, e)
-
-      pub shown-still : b ≡ false → record { place = f.place; entry = f.entry; index = i } ≡ shown_of s c t i
-      unfolding shown_of
-      shown-still e = rw (hf, by_key c t.key kin o, ← hb, e)
+    pub no_offence : (mode_from (word_at s 16) ≡ Mode.Indexed → ⊥) → offends (params_of s c) (key_read s (body_at c) k) ≡ false
+    unfolding offends
+    no_offence = elsewhere (λ ps. offends ps (key_read s (body_at c) k)) refl (λ ps. refl)

@@ -7,19 +7,17 @@ use Prim.Native.Nat.{ℕ, ◌+◌, ◌≤◌, ◌<◌}
 use native.Mathlib.Omega.{arith}
 use Rattle.rules.specs.declared.Token.{Token}
 use Rattle.rules.specs.declared.Counts.{Counts}
-use Rattle.rules.specs.Base.{or_else}
-use Rattle.std.specs.Prelude.{if◌then◌else◌}
+use Rattle.std.specs.Prelude.{if◌then◌else◌, Option, None, Some, unwrap_or}
 use Rattle.rules.specs.Words.{token_at, body_at}
 use Rattle.rules.specs.Sheet.{body_part, key_read, value_of, params_of}
 use Rattle.rules.specs.Params.{source, get, advances}
 use Rattle.tokens.specs.Placed.{Inside}
 use Rattle.records.specs.Sheeted.{Sheeted}
-use Rattle.params.specs.declared.Entry.{Entry}
 use Rattle.params.specs.declared.Found.{Found}
 use Rattle.params.specs.declared.Shown.{Shown}
 use Rattle.params.specs.Entries.{KeyIn, entry_for, place_in, found_of, shown_of}
-use Rattle.params.specs.Found.{Below, number_in}
-use Rattle.params.proofs.FoundLaws.{bytes_of, entry-is, entry-bytes, entry-below}
+use Rattle.params.specs.Found.{Below}
+use Rattle.params.proofs.FoundLaws.{bytes_of, entry-is, entry-bytes, entry_below}
 
 -- a token of a checked sheet has its places in the bodies
 module _ (s : List ℕ) (c : Counts) (t : Token) (k : ℕ) (sheeted : Sheeted s c) (h : k < c.tokens) (e : t ≡ token_at s k) where
@@ -38,25 +36,25 @@ module _ (s : List ℕ) (c : Counts) (t : Token) (i : ℕ) (r : Shown) (h : r �
   unfolding shown_of get found_of place_in value_of
   shown-bytes kin = rw (h, ← entry-bytes s c t.key i kin) (go (entry_for s c t.key i))
     where
-      go : (e : Entry) → body_part s (body_at c) (place_in s c t.value e) ≡ or_else (body_part s (body_at c) t.value) (bytes_of s c e)
-      go (Entry.At j) = refl
-      go Entry.Nothing = refl
+      go : (e : Option ℕ) → body_part s (body_at c) (place_in s c t.value e) ≡ unwrap_or (bytes_of s c e) (body_part s (body_at c) t.value)
+      go (Some j) = refl
+      go None = refl
 
   pub shown-inside : Sheeted s c → Inside s (body_at c) t.value → Inside s (body_at c) r.place
   unfolding shown_of found_of place_in
-  shown-inside sheeted own = rw h (go (entry_for s c t.key i) (entry-below s c t.key i))
+  shown-inside sheeted own = rw h (go (entry_for s c t.key i) (entry_below s c t.key i))
     where
-      go : (e : Entry) → Below c.params e → Inside s (body_at c) (place_in s c t.value e)
-      go (Entry.At j) b = (sheeted.params.within j (b j refl)).value_in
-      go Entry.Nothing b = own
+      go : (e : Option ℕ) → Below c.params e → Inside s (body_at c) (place_in s c t.value e)
+      go (Some j) b = (sheeted.params.within j (b j refl)).value_in
+      go None b = own
 
-  pub shown-source : KeyIn s (body_at c) t.key → number_in r.entry ≡ source (params_of s c) (key_read s (body_at c) t.key) i
+  pub shown-source : KeyIn s (body_at c) t.key → r.entry ≡ source (params_of s c) (key_read s (body_at c) t.key) i
   unfolding shown_of found_of
   shown-source kin = rw h (entry-is s c i t.key kin)
 
   pub shown-below : Below c.params r.entry
   unfolding shown_of found_of
-  shown-below = rw h (entry-below s c t.key i)
+  shown-below = rw h (entry_below s c t.key i)
 
   -- without the counter, it is what is found
   pub shown-found : record { place = r.place; entry = r.entry } ≡ found_of s c t i

@@ -1,13 +1,6 @@
--- An entry's number, as the rules say it, and a bound on it.
-use Rattle.std.specs.Prelude.{◌≡◌, ℕ, ◌<◌}
-use Rattle.std.proofs.Math.Option.{Option, none, some}
-use Rattle.params.specs.declared.Entry.{Entry}
-
--- the number of an entry, as the rules say it
-abbrev pub number_in : Entry → Option ℕ
-number_in (Entry.At i) = some i
-number_in Entry.Nothing = none
+-- A bound on an entry's number.
+use Rattle.std.specs.Prelude.{◌≡◌, ℕ, ◌<◌, Option, Some}
 
 -- its number is below k
-abbrev pub Below : ℕ → Entry → Type 0
-Below k e = (j : ℕ) → e ≡ Entry.At j → j < k
+abbrev pub Below : ℕ → Option ℕ → Type 0
+Below k e = (j : ℕ) → e ≡ Some j → j < k

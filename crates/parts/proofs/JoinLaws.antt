@@ -15,7 +15,7 @@ use Rattle.std.specs.Prelude.{if◌then◌else◌}
 use Rattle.rules.specs.Text.{line_feeds}
 use Rattle.rules.proofs.Short.{feeds-few}
 use Rattle.ascii.specs.Part.{part, has, before}
-use Rattle.ascii.proofs.PartLaws.{length_part, part-more, part_end}
+use Rattle.ascii.proofs.PartLaws.{length_part, part-more}
 use Rattle.columns.specs.declared.Measure.{Measure}
 use Rattle.columns.specs.Measured.{count, measure}
 use Rattle.columns.proofs.HeadLaws.{head_at, after, split, head-far, head-most, best_free, after-most, after-end}
@@ -100,8 +100,8 @@ feedless (x ∷ xs) h = go (eqb x 10) refl (feedless xs)
     go false e g = rw e (ap suc (g (rw e at h)))
 
 -- a column above the offset has met none
-pub by-above : (d : List ℕ) (start n at : ℕ) → (start + n ≤ length d) × (n ≤ 4064) → at ≡ (measure (count 32768 32768) (part d start n)).at → 32768 ≤ at → (n ≡ before 10 (part d start n)) × (n ≤ n)
-by-above d start n at q e h = go (has 10 10 (part d start n)) refl
+pub by_above : (d : List ℕ) (start n at : ℕ) → (start + n ≤ length d) × (n ≤ 4064) → at ≡ (measure (count 32768 32768) (part d start n)).at → 32768 ≤ at → (n ≡ before 10 (part d start n)) × (n ≤ n)
+by_above d start n at q e h = go (has 10 10 (part d start n)) refl
   where
     go : (f : Bool) → has 10 10 (part d start n) ≡ f → (n ≡ before 10 (part d start n)) × (n ≤ n)
     go true z =
@@ -185,9 +185,9 @@ module _ (d : List ℕ) (start n : ℕ) (m : Measure) (at head best line tab end
       let o = told-offset v m.best at head best short t in
       ⊎_elim (λ g. let k = head-tab v m.at 0 (omega (arith, g.0)) in omega (arith, g.1)) (λ g. let k = head_plain v m.at (omega (arith, g.0)) in omega (arith, g.1)) c
 
-  pub by-one-line : line ≡ n → record { at = end; best = wide } ≡ measure m (part d start n)
+  pub by_one_line : line ≡ n → record { at = end; best = wide } ≡ measure m (part d start n)
   unfolding v
-  by-one-line z =
+  by_one_line z =
       let k = long in
       let f = l.0 in
       let e = end_is in
@@ -223,12 +223,6 @@ feeds-both (x ∷ xs) w = go (eqb x 10) (feeds-both xs w)
 pub past-part : (k far : ℕ) → k < 16 → k * far + far ≤ 16 * far
 past-part k far h = let a = suc-mul k far in let b : suc k * far ≤ 16 * far = mul-le-mul_right far h in omega arith
 
-pub no-parts : (d : List ℕ) (start far : ℕ) (from : Measure) → from.at ≤ from.best → Counted d start (16 * far) from (0 * far) from
-no-parts d start far from u = let z : 0 * far ≡ 0 = omega arith in rw z (none-counted d start (16 * far) from u)
-
-pub no-feeds : (d : List ℕ) (start far : ℕ) → 0 ≡ line_feeds (part d start (0 * far))
-no-feeds d start far = let z : 0 * far ≡ 0 = omega arith in rw z
-
 module _ (d : List ℕ) (start far k : ℕ) (from m : Measure) (q : (start + 16 * far ≤ length d) × (far % 16 ≡ 0) × (far ≤ 4064)) (s : Counted d start (16 * far) from (k * far) m) where
   module _ (c : k < 16) where
     pub part-fits : start + k * far + far ≤ length d
@@ -251,19 +245,12 @@ module _ (d : List ℕ) (start far k : ℕ) (from m : Measure) (q : (start + 16 
         let g : n + f ≡ line_feeds (part d start (k * far + far)) = omega (arith, e, en, ef) in
         (b, rw a at g, omega (arith, a, b, l))
 
-  pub all-parts : k ≡ 16 → m ≡ measure from (part d start (16 * far))
-  all-parts e = let l = s.left in rw (e, part_end d start (16 * far) (16 * far) q.0 (omega arith)) at l
-
 -- what is known stays known
 pub best_grows : (b : ℕ) (m r : Measure) (v : List ℕ) → b ≤ m.best → r ≡ measure m v → b ≤ r.best
 best_grows b m r v h e = rw e (let f = (best_free m.at m.best v).1 in omega (arith, f))
 
--- both numbers of all parts
-pub all-counted : (n : ℕ) (m from : Measure) (v : List ℕ) → n ≡ line_feeds v → m ≡ measure from v → record { feeds = n; at = m.at; best = m.best } ≡ counted_of from v
-all-counted n m from v e f = rw (e, f)
-
 -- the columns of what is counted
-pub by-counted : (s : Counts) (from : Measure) (v : List ℕ) → s ≡ counted_of from v → record { at = s.at; best = s.best } ≡ measure from v
+pub by-counted : (s : Counts) (from : Measure) (v : List ℕ) → s ≡ counted_of from v → s.columns ≡ measure from v
 by-counted s from v e = rw e
 
 -- the first bytes by parts, the others after them

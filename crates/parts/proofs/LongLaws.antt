@@ -4,7 +4,7 @@ use mathlib.Core.Bool.{Bool, true, false}
 use mathlib.Core.List.{List, ◌++◌}
 use Prim.Native.Nat.{ℕ, ◌+◌, ◌*◌, ◌%◌, ◌≤◌, ◌<◌, max}
 use native.Mathlib.Omega.{arith}
-use lib.ListN.{length, get_or, replicate, get_or-replicate}
+use lib.ListN.{length, get_or}
 use Rattle.rules.specs.Text.{line_feeds}
 use Rattle.rules.proofs.Short.{feeds-few}
 use Rattle.ascii.specs.Part.{part, has}
@@ -72,21 +72,6 @@ pub record Lanes (d : List ℕ) (start far j : ℕ) (at head best feeds : List �
   pub largest_long : length head ≡ 16
   pub inner_long : length best ≡ 16
   pub feeds_long : length feeds ≡ 16
-
-pub none_told : (d : List ℕ) (start far : ℕ) → Lanes d start far 0 (replicate 16 32768) (replicate 16 32768) (replicate 16 120) (replicate 16 0)
-none_told d start far = record {
-  within = omega arith;
-  sixteens = omega arith;
-  told = record {
-    each = λ k h. rw (get_or-replicate {A = ℕ} 16 k 32768 0 h, get_or-replicate {A = ℕ} 16 k 120 0 h) (record { measured = refl; inner = refl });
-    fed = λ k h. get_or-replicate {A = ℕ} 16 k 0 0 h;
-  };
-  known = λ k h. rw (get_or-replicate {A = ℕ} 16 k 120 0 h) (omega arith);
-  columns_long = refl;
-  largest_long = refl;
-  inner_long = refl;
-  feeds_long = refl;
-}
 
 module _ (d : List ℕ) (start far j : ℕ) (at head best feeds : List ℕ) (q : (start + 16 * far ≤ length d) × (far % 16 ≡ 0) × (far ≤ 4064)) (s : Lanes d start far j at head best feeds) (c : j < far) where
   lane-length : (k : ℕ) → k < 16 → length (part d (start + k * far) j) ≡ j

@@ -1,11 +1,11 @@
 -- Laws of sixteen parts told by narrow lanes: either all lines are short, or a line of 120 columns is there. Assumes nothing.
 use mathlib.Core.Path.{◌≡◌, refl, sym, ap, ◌∙◌}
-use mathlib.Core.Bool.{Bool, true, false}
+use mathlib.Core.Bool.{Bool, true, false, false≢true}
 use mathlib.Core.List.{List, ◌++◌}
 use Prim.Native.Nat.{ℕ, ◌+◌, ◌-◌, ◌*◌, ◌%◌, ◌≤◌, ◌<◌, max}
 use native.Mathlib.Omega.{arith}
 use lib.Dec.{ltb}
-use lib.ListN.{length, get_or, replicate, get_or-replicate}
+use lib.ListN.{length, get_or}
 use borrow.Author.Tests.{lt-ltb, le-ltb}
 use Rattle.rules.specs.Text.{line_feeds}
 use Rattle.rules.proofs.Short.{feeds-few}
@@ -15,11 +15,13 @@ use Rattle.columns.specs.declared.Measure.{Measure}
 use Rattle.columns.specs.Measured.{count, measure}
 use Rattle.columns.proofs.HeadLaws.{head_at, after, split, head-far, best_free}
 use Rattle.columns.proofs.MeasureLaws.{measure-both, measure-most}
-use Rattle.steps.specs.Steps.{codes_of, Below, Mapped}
+use Rattle.steps.specs.Steps.{codes_of, Below}
 use Rattle.steps.proofs.ArrayLaws.{all-below}
 use Rattle.narrow.specs.declared.Lane.{Lane}
 use Rattle.narrow.specs.Narrow.{lane_on, fresh, lane_at, NarrowOn}
 use Rattle.narrow.proofs.MeaningLaws.{narrow_both, narrow-held, narrow-past}
+use Rattle.std.specs.Prelude.{Option, None, Some, MatchOption, is_some}
+use Rattle.parts.specs.declared.Counted.{Counted}
 use Rattle.parts.specs.Parts.{Told, ToldAll, counted_of, above_of}
 use Rattle.parts.proofs.JoinLaws.{same-measure, told-known, head-mono, past-part, feeds-both}
 
@@ -40,20 +42,6 @@ pub record Narrows (d : List ℕ) (start far j : ℕ) (c h g feeds : List ℕ) :
   pub largest_long : length h ≡ 16
   pub inner_long : length g ≡ 16
   pub feeds_long : length feeds ≡ 16
-
-pub none-narrow : (d : List ℕ) (start far : ℕ) → Narrows d start far 0 (replicate 16 128) (replicate 16 128) (replicate 16 0) (replicate 16 0)
-none-narrow d start far = record {
-  within = omega arith;
-  sixteens = omega arith;
-  column = λ k h. get_or-replicate {A = ℕ} 16 k 128 0 h;
-  largest = λ k h. get_or-replicate {A = ℕ} 16 k 128 0 h;
-  inner = λ k h. get_or-replicate {A = ℕ} 16 k 0 0 h;
-  fed = λ k h. get_or-replicate {A = ℕ} 16 k 0 0 h;
-  columns_long = refl;
-  largest_long = refl;
-  inner_long = refl;
-  feeds_long = refl;
-}
 
 -- the same lane, read from lists
 same-lane : (a b c : ℕ) (m : Lane) → a ≡ m.at → b ≡ m.top → c ≡ m.inner → fresh a b c ≡ fresh m.at m.top m.inner
@@ -155,9 +143,22 @@ module _ (v : List ℕ) (c h g : ℕ) (e : count c h ≡ measure (count 128 128)
       let n : max (above_of g) 0 ≡ g = omega arith in
       record { measured = same-measure (above_of c) (above_of h) (measure (count 32768 32768) v) wide_at wide_top; inner = n ∙ f }
 
-pub all-narrow : (d : List ℕ) (start far j n : ℕ) (c h g feeds at₀ head₀ best₀ at head best : List ℕ) → Narrows d start far j c h g feeds → far ≤ j → ((k : ℕ) → k < 16 → get_or g k 0 < 120)
-    → Mapped 16 (λ k x. above_of (get_or c k 0)) at₀ at → Mapped 16 (λ k x. above_of (get_or h k 0)) head₀ head → Mapped 16 (λ k x. above_of (get_or g k 0)) best₀ best → ToldAll d start far far n at head best feeds
-all-narrow d start far j n c h g feeds at₀ head₀ best₀ at head best s b l ma mh mb =
+-- each of sixteen lanes, raised
+abbrev pub Raised : List ℕ → List ℕ → Type 0
+Raised c l = (k : ℕ) → k < 16 → get_or l k 0 ≡ above_of (get_or c k 0)
+
+-- whether a lane has reached 120 columns
+pub wide-at : (P : Type 0) (Q : ℕ → Type 0) (r : Option ℕ) → MatchOption r P Q → is_some r ≡ true → (k : ℕ) × Q k
+wide-at P Q None m e = absurd (false≢true e)
+wide-at P Q (Some k) m e = (k, m)
+
+pub none-wide : (P : Type 0) (Q : ℕ → Type 0) (r : Option ℕ) → MatchOption r P Q → is_some r ≡ false → P
+none-wide P Q None m e = m
+none-wide P Q (Some k) m e = absurd (false≢true (sym e))
+
+pub all-narrow : (d : List ℕ) (start far j n : ℕ) (c h g feeds at head best : List ℕ) → Narrows d start far j c h g feeds → far ≤ j → ((k : ℕ) → k < 16 → get_or g k 0 < 120)
+    → Raised c at → Raised h head → Raised g best → ToldAll d start far far n at head best feeds
+all-narrow d start far j n c h g feeds at head best s b l ma mh mb =
     record { each = each; fed = λ k i. let e : j ≡ far = omega (arith, s.within) in rw e at (s.fed k i) }
   where
     each : (k : ℕ) → k < 16 → Told (part d (start + k * far) far) n (get_or at k 0) (get_or head k 0) (get_or best k 0)
@@ -169,7 +170,7 @@ all-narrow d start far j n c h g feeds at₀ head₀ best₀ at head best s b l 
         let eg : get_or g k 0 ≡ (lane v).inner = rw z at (s.inner k i) in
         let o = narrow-held v (rw eg at (l k i)) in
         let p : count (get_or c k 0) (get_or h k 0) ≡ measure (count 128 128) v = same-measure (get_or c k 0) (get_or h k 0) (count (lane v).at (lane v).top) ec eh ∙ o.0 in
-        rw (ma.new k i, mh.new k i, mb.new k i) (told-known v 0 n (above_of (get_or c k 0)) (above_of (get_or h k 0)) (above_of (get_or g k 0)) (omega arith) (raised v (get_or c k 0) (get_or h k 0) (get_or g k 0) p (eg ∙ o.1) (l k i)))
+        rw (ma k i, mh k i, mb k i) (told-known v 0 n (above_of (get_or c k 0)) (above_of (get_or h k 0)) (above_of (get_or g k 0)) (omega arith) (raised v (get_or c k 0) (get_or h k 0) (get_or g k 0) p (eg ∙ o.1) (l k i)))
 
 -- ---- a line of 120 columns is there
 
@@ -203,6 +204,9 @@ a_wide_line d start far j k c h g feeds from u s b i w =
     ap (part d start) n ∙ part-more d start (k * far) (far + (16 * far - (k * far + far))) ∙ ap (λ (x : List ℕ). part d start (k * far) ++ x) (part-more d (start + k * far) far (16 * far - (k * far + far))) in
     rw y (within-parts from (part d start (k * far)) v (part d (start + k * far + far) (16 * far - (k * far + far))) 120 u (narrow-past v (rw eg at w)))
 
+abbrev counted : ℕ → Measure → Counted
+counted n m = record { feeds = n; columns = m }
+
 -- what is there may as well be known
 pub known-too : (from : Measure) (b : ℕ) (v : List ℕ) → b ≡ max from.best 120 → 120 ≤ (measure from v).best → counted_of (count from.at b) v ≡ counted_of from v
 known-too from b v e h =
@@ -210,4 +214,4 @@ known-too from b v e h =
     let q = best_free from.at from.best v in
     let i : (measure (count from.at b) v).at ≡ (measure from v).at = p.0 ∙ sym q.0 in
     let j : (measure (count from.at b) v).best ≡ (measure from v).best = omega (arith, p.1, q.1) in
-    rw (i, j)
+    ap (counted (line_feeds v)) (same-measure (measure (count from.at b) v).at (measure (count from.at b) v).best (measure from v) i j)

@@ -8,7 +8,7 @@ use Rattle.parts.specs.declared.Counted.{Counted}
 
 -- the line feeds of v and its columns, m standing before
 abbrev pub counted_of : Measure → List ℕ → Counted
-counted_of m v = record { feeds = line_feeds v; at = (measure m v).at; best = (measure m v).best }
+counted_of m v = record { feeds = line_feeds v; columns = measure m v }
 
 -- at is the column, above 32768 until a line feed comes; head the largest such column; best the largest from 0, where a line of known columns is known
 pub record Told (v : List ℕ) (known at head best : ℕ) : Type 0 where

@@ -1,7 +1,7 @@
 // The line feeds and columns of a text in sixteen parts side by side: each part by itself first, then one after the other.
 #![tactic(auto)]
 
-ghost use Rattle.std.specs.Prelude.{◌≡◌, ◌+◌, ◌*◌, ◌%◌, ◌^◌, ◌≤◌, ◌<◌, ℕ, length, get_or};
+ghost use Rattle.std.specs.Prelude.{◌≡◌, ◌+◌, ◌*◌, ◌%◌, ◌^◌, ◌≤◌, ◌<◌, ℕ, length, get_or, MatchOption};
 ghost use Rattle.ascii.specs.Part.{part, before};
 ghost use Rattle.columns.specs.Measured.{count, measure};
 ghost use Rattle.steps.specs.Steps.{Mapped};
@@ -10,19 +10,18 @@ ghost use Rattle.parts.specs.Parts.{Told, ToldAll, counted_of, above_of};
 use ascii::find;
 use columns::{Measure, by_columns};
 use lanes::block;
-use longest::{larger, least};
 use narrow::narrow_block;
 
 #[derive(Drop)]
 pub struct Counted {
     pub feeds: usize,
-    pub at: usize,
-    pub best: usize,
+    pub columns: Measure,
 }
 
 // ---- the parts one after the other
 
 // Where a part's first line ends. A column above the offset has met no line feed.
+#[tactic(auto, using(crate::proofs::JoinLaws::by_above))]
 fn first_line(text: &[u8], start: usize, n: usize, at: u16) -> usize
     requires n_in_bounds { (start + n ≤ length text.now) × (n ≤ 4064) }
     requires at_value { at ≡ (measure (count 32768 32768) (part text.now start n)).at }
@@ -45,9 +44,9 @@ fn joined(text: &[u8], start: usize, n: usize, m: Measure, at: u16, head: u16, b
     let tab = find(text, start, line, 9);
     let mut end = m.at + line;
     if tab < line {
-        end = (head & 32767) as usize + ((m.at + tab) / 8 - tab / 8) * 8;
+        end = usize::from(head & 32767) + ((m.at + tab) / 8 - tab / 8) * 8;
     }
-    let wide = larger(end, m.best);
+    let wide = end.max(m.best);
     if line == n {
         return Measure {
             at: end,
@@ -55,8 +54,8 @@ fn joined(text: &[u8], start: usize, n: usize, m: Measure, at: u16, head: u16, b
         };
     }
     Measure {
-        at: at as usize,
-        best: larger(best as usize, wide),
+        at: usize::from(at),
+        best: usize::from(best).max(wide),
     }
 }
 
@@ -77,16 +76,13 @@ fn join(
 {
     let mut m = from;
     let mut n = 0;
-    let mut k = 0;
-    while k < 16 {
+    for k in 0..16 {
         m = joined(text, start + k * far, far, m, at[k], head[k], best[k]);
-        n += feeds[k] as usize;
-        k += 1;
+        n += usize::from(feeds[k]);
     }
     Counted {
         feeds: n,
-        at: m.at,
-        best: m.best,
+        columns: m,
     }
 }
 
@@ -102,6 +98,7 @@ fn long(text: &[u8], start: usize, far: usize, from: Measure) -> Counted
     let mut head: [u16; 16] = [32768; 16];
     let mut best: [u16; 16] = [120; 16];
     let mut feeds: [u16; 16] = [0; 16];
+    // By `(0..far).step_by(16)`: 1.1 of the time of a text with tabs.
     let mut j = 0;
     while j < far {
         block(
@@ -118,18 +115,11 @@ fn long(text: &[u8], start: usize, far: usize, from: Measure) -> Counted
     join(text, start, far, from, &at, &head, &best, &feeds)
 }
 
-// The first lane that has reached 120 columns, or 16.
-fn first_wide(g: &[u8; 16]) -> usize
-    ensures { (result ≤ 16) × ((k : ℕ) → k < result → get_or g.now k 0 < 120) × (result < 16 → 120 ≤ get_or g.now result 0) }
+// The first lane that has reached 120 columns.
+fn first_wide(g: &[u8; 16]) -> Option<usize>
+    ensures { MatchOption result ((k : ℕ) → k < 16 → get_or g.now k 0 < 120) (λ k. (k < 16) × (120 ≤ get_or g.now k 0)) }
 {
-    let mut k = 0;
-    while k < 16 {
-        if 120 <= g[k] {
-            return k;
-        }
-        k += 1;
-    }
-    k
+    g.iter().position(|c| 120 <= *c)
 }
 
 // The offset of a byte is 128, that of a wide lane 32768.
@@ -137,19 +127,17 @@ fn above(c: u8) -> u16
     ensures { result ≡ above_of c }
 {
     if c < 128 {
-        return c as u16;
+        return u16::from(c);
     }
-    c as u16 + 32640
+    u16::from(c) + 32640
 }
 
+// By `map` of the array: 1.05 of the time of a text of 4 KB with tabs.
 fn raise(to: &mut [u16; 16], c: &[u8; 16])
-    requires { length to.old ≡ 16 }
     ensures { Mapped 16 (λ k x. above_of (get_or c.now k 0)) to.old to.new }
 {
-    let mut k = 0;
-    while k < 16 {
+    for k in 0..16 {
         to[k] = above(c[k]);
-        k += 1;
     }
 }
 
@@ -163,15 +151,16 @@ fn short(text: &[u8], start: usize, far: usize, from: Measure) -> Counted
     let mut h: [u8; 16] = [128; 16];
     let mut g: [u8; 16] = [0; 16];
     let mut feeds: [u16; 16] = [0; 16];
+    // A `while` as above, for the same reason.
     let mut j = 0;
     while j < far {
         narrow_block(&mut c, &mut h, &mut g, &mut feeds, text, start + j, far);
         j += 16;
     }
-    if first_wide(&g) < 16 {
+    if first_wide(&g).is_some() {
         let known = Measure {
             at: from.at,
-            best: larger(from.best, 120),
+            best: from.best.max(120),
         };
         return long(text, start, far, known);
     }
@@ -206,11 +195,7 @@ pub fn by_parts(text: &[u8], start: usize, n: usize, from: Measure) -> Measure
     if n < 512 {
         return by_columns(text, start, n, from);
     }
-    let far = least(n / 256, 254) * 16;
+    let far = (n / 256).min(254) * 16;
     let s = sixteen(text, start, far, from);
-    let m = Measure {
-        at: s.at,
-        best: s.best,
-    };
-    by_columns(text, start + 16 * far, n - 16 * far, m)
+    by_columns(text, start + 16 * far, n - 16 * far, s.columns)
 }

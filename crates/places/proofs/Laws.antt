@@ -13,16 +13,16 @@ pub length_part : (s : List ℕ) (base : ℕ) (p : Place) → Inside s base p �
 unfolding body_part
 length_part s base p h = let k = h.inside in simp (length-take, length-drop) (omega arith)
 
-pub part-empty : (s : List ℕ) (base : ℕ) (p : Place) → p.len ≡ 0 → body_part s base p ≡ []
+pub part_empty : (s : List ℕ) (base : ℕ) (p : Place) → p.len ≡ 0 → body_part s base p ≡ []
 unfolding body_part
-part-empty s base p h = rw h
+part_empty s base p h = rw h
 
 -- of n records those from the i-th on: the i-th and those after it, or none
 module _ {A : Type 0} (f : ℕ → A) (i n : ℕ) where
-  pub list-next : i < n → list_of f i (n - i) ≡ f i ∷ list_of f (i + 1) (n - (i + 1))
+  pub list_next : i < n → list_of f i (n - i) ≡ f i ∷ list_of f (i + 1) (n - (i + 1))
   unfolding list_of
-  list-next h = let e : n - i ≡ suc (n - (i + 1)) = omega arith in rw (e, add-one)
+  list_next h = let e : n - i ≡ suc (n - (i + 1)) = omega arith in rw (e, add-one)
 
-  pub list-end : n ≤ i → list_of f i (n - i) ≡ []
+  pub list_end : n ≤ i → list_of f i (n - i) ≡ []
   unfolding list_of
-  list-end h = let e : n - i ≡ 0 = omega arith in rw e
+  list_end h = let e : n - i ≡ 0 = omega arith in rw e

@@ -10,6 +10,7 @@ use ascii::same_bytes;
 use rules::Place;
 use tokens::to_usize;
 
+#[tactic(auto, using(crate::proofs::SameLaws::parts, crate::proofs::SameLaws::one_start))]
 pub fn same_places(s: &[u8], base: usize, p: Place, q: Place) -> bool
     requires { (Inside s.now base p) × (Inside s.now base q) }
     ensures { result ≡ same (body_part s.now base p) (body_part s.now base q) }

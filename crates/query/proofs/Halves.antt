@@ -1,7 +1,7 @@
 -- Each handler of the rules is what it does to the text and what it does to the rest.
 use mathlib.Core.Path.{◌≡◌, refl}
 use mathlib.Core.Bool.{Bool, true, false, not, ◌&&◌, ◌||◌}
-use mathlib.Core.Option.{Option, none, some}
+use Rattle.std.specs.Prelude.{Option, None, Some, if◌then◌else◌, is_some}
 use mathlib.Core.List.{List, [], ◌∷◌, tail}
 use Prim.Native.Nat.{ℕ, suc, ◌-◌}
 use lib.Dec.{eqb}
@@ -9,8 +9,7 @@ use lib.ListN.{length}
 use Rattle.rules.specs.declared.SpanInfo.{SpanInfo}
 use Rattle.rules.specs.declared.BlockInfo.{BlockInfo}
 use Rattle.rules.specs.declared.TokenKind.TheVariants as kind
-use Rattle.rules.specs.Base.{◌▹◌, holds, is_some, choose, when, full}
-use Rattle.std.specs.Prelude.{if◌then◌else◌}
+use Rattle.rules.specs.Base.{◌▹◌, holds, choose, when, full}
 use Rattle.rules.specs.Bytes.{bytes}
 use Rattle.rules.specs.Tokens.{Here}
 use Rattle.rules.specs.Sheet.{Env}
@@ -34,12 +33,12 @@ bracket_of e h = rule.format_reserved_word e h.token.value
 
 -- the last top-level word was inlined; its span
 unfoldable pub was_inlined : Option SpanInfo → Bool
-was_inlined none = false
-was_inlined (some sp) = not sp.newline_after
+was_inlined None = false
+was_inlined (Some sp) = not sp.newline_after
 
 unfoldable pub span_or : Option SpanInfo → SpanInfo
-span_or none = record { full_span = 0; blocks = 0; newline_before = false; newline_after = false; arguments = 0 }
-span_or (some sp) = sp
+span_or None = record { full_span = 0; blocks = 0; newline_before = false; newline_after = false; arguments = 0 }
+span_or (Some sp) = sp
 
 -- the text and the stacks of a state
 unfoldable pub halves : Text → Indentation (List ℕ) → State → State
@@ -194,8 +193,8 @@ module _ (e : Env) (h : Here) (s : State) where
 
   newline-of : (b c : Bool) (o : Option SpanInfo) → newline_chain b c (rule.indent_inlined o) ≡ newline_halves b c (was_inlined o) (span_or o)
   unfolding rule.indent_inlined was_inlined span_or when
-  newline-of b c none = newline-by b c false (span_or none)
-  newline-of b c (some sp) = newline-by b c (not sp.newline_after) sp
+  newline-of b c None = newline-by b c false (span_or None)
+  newline-of b c (Some sp) = newline-by b c (not sp.newline_after) sp
 
   pub newline-word : rule.format_newline_reserved_word e h s
       ≡ (let last = previous_top_level_reserved s.indentation in

@@ -1,15 +1,12 @@
 -- Each handler's rule from what its calls gave. Assumes nothing.
 use mathlib.Core.Path.{◌≡◌, refl, ap, ◌∙◌}
 use mathlib.Core.Bool.{Bool, true, false, not, ◌&&◌, ◌||◌}
-use mathlib.Core.Option.{Option, none, some}
+use Rattle.std.specs.Prelude.{Option, None, Some, ℕ}
 use mathlib.Core.List.{List}
 use Prim.Native.Nat.{ℕ, ◌+◌, ◌≤◌, ◌<◌}
 use native.Mathlib.Omega.{arith}
-use lib.Dec.{ltb}
 use lib.ListN.{length}
 use Rattle.rules.specs.declared.Case.{Case}
-use Rattle.rules.specs.declared.Limit.{Limit}
-use Rattle.rules.specs.declared.Limit.TheVariants as limits
 use Rattle.rules.specs.declared.Place.{Place}
 use Rattle.rules.specs.declared.SpanInfo.{SpanInfo}
 use Rattle.rules.specs.Base.{when, full}
@@ -24,9 +21,7 @@ use Rattle.ascii.specs.Part.{part as bytes}
 use Rattle.text.specs.Held.{text_of, Laid}
 use Rattle.text.specs.declared.Text.{Text as CodeText}
 use Rattle.tokens.specs.Placed.{Inside}
-use Rattle.indentation.specs.Of.{no_span, span_in, indentation_of, Stands}
-use Rattle.indentation.specs.declared.TopLevel.{TopLevel}
-use Rattle.indentation.specs.declared.TopLevel.TheVariants as top
+use Rattle.indentation.specs.Of.{indentation_of, Stands}
 use Rattle.indentation.specs.declared.Indentation.{Indentation as Stacks}
 use Rattle.inline_block.specs.Of.{inline_block_of}
 use Rattle.query.specs.Query
@@ -77,72 +72,34 @@ module _ (w : ℕ → List ℕ) (i : Indentation ℕ) where
 module _ (i : Indentation ℕ) where
   last-below : (k : ℕ) (o : Option SpanInfo) → Below k i → Below k (indent_last o i)
   unfolding indent_last
-  last-below k none p = p
-  last-below k (some sp) p = when-below (increase_top_level sp) i k (not sp.newline_after) p (top_below k i p sp)
+  last-below k None p = p
+  last-below k (Some sp) p = when-below (increase_top_level sp) i k (not sp.newline_after) p (top_below k i p sp)
 
   inlined-words : (w : ℕ → List ℕ) (b : Bool) (o : Option SpanInfo)
       → on_words w (when b (indent_last o) i) ≡ when (b && halves.was_inlined o) (increase_top_level (halves.span_or o)) (on_words w i)
   unfolding when indent_last halves.was_inlined halves.span_or
   inlined-words w false o = refl
-  inlined-words w true none = refl
-  inlined-words w true (some sp) = when-words (increase_top_level sp) i w (not sp.newline_after) (increase_top_level sp) (top-words w sp i)
+  inlined-words w true None = refl
+  inlined-words w true (Some sp) = when-words (increase_top_level sp) i w (not sp.newline_after) (increase_top_level sp) (top-words w sp i)
 
 six-is : (o : Option SpanInfo) (b : Bool) → six_in o b ≡ (halves.was_inlined o && b)
 unfolding six_in halves.was_inlined
-six-is none b = refl
-six-is (some sp) b = refl
+six-is None b = refl
+six-is (Some sp) b = refl
 
 -- the last top-level word, as the code holds it
 inlined-is : {W : Type 0} (b : Bool) (o : Option SpanInfo) (i : Indentation W) → when (b && inlined_last o) (increase_top_level (or_no_span o)) i ≡ when b (indent_last o) i
 unfolding when indent_last inlined_last or_no_span
 inlined-is false o i = refl
-inlined-is true none i = refl
-inlined-is true (some sp) i = refl
+inlined-is true None i = refl
+inlined-is true (Some sp) i = refl
 
-pub by-nothing : (b : Bool) (last : TopLevel) → b ≡ true → last ≡ top.Nothing → false ≡ (b && inlined_last (span_in last))
-unfolding inlined_last span_in
-by-nothing b last h e = rw (h, e)
-
-pub by-some : (b : Bool) (last : TopLevel) (sp : SpanInfo) → b ≡ true → last ≡ top.Span sp → not sp.newline_after ≡ (b && inlined_last (span_in last))
-unfolding inlined_last span_in
-by-some b last sp h e = rw (h, e)
-
-pub by-no-break : (b : Bool) (last : TopLevel) → b ≡ false → false ≡ (b && inlined_last (span_in last))
-by-no-break b last h = rw h
-
-pub span_none : (last : TopLevel) → last ≡ top.Nothing → no_span ≡ or_no_span (span_in last)
-unfolding or_no_span span_in
-span_none last e = rw e
-
-pub span-some : (last : TopLevel) (sp : SpanInfo) → last ≡ top.Span sp → sp ≡ or_no_span (span_in last)
-unfolding or_no_span span_in
-span-some last sp e = rw e
-
-pub six-none : (last : TopLevel) (b : Bool) → last ≡ top.Nothing → false ≡ six_in (span_in last) b
-unfolding six_in span_in
-six-none last b e = rw e
-
-pub six-broken : (last : TopLevel) (b : Bool) (sp : SpanInfo) → last ≡ top.Span sp → sp.newline_after ≡ true → false ≡ six_in (span_in last) b
-unfolding six_in span_in
-six-broken last b sp e h = rw (e, h)
-
-pub six-inlined : (last : TopLevel) (b : Bool) (sp : SpanInfo) → last ≡ top.Span sp → sp.newline_after ≡ false → b ≡ six_in (span_in last) b
-unfolding six_in span_in
-six-inlined last b sp e h = rw (e, h)
-
-pub by-indented : (i : Stacks) (breaks : Bool) (n : ℕ) (last : TopLevel) (b : Bool) (sp : SpanInfo) (to noted : Stacks) (f six : Bool) (level : ℕ) → span_in last ≡ previous_top_level_reserved (indentation_of i)
-    → b ≡ (breaks && inlined_last (span_in last)) → sp ≡ or_no_span (span_in last) → Stands (when b (increase_top_level sp) (indentation_of i)) to → Stands (set_previous_reserved n (indentation_of to)) noted → f ≡ full (indentation_of i).indent_types → six ≡ six_in (span_in last) f
+pub by-indented : (i : Stacks) (breaks : Bool) (n : ℕ) (last : Option SpanInfo) (b : Bool) (sp : SpanInfo) (to noted : Stacks) (f six : Bool) (level : ℕ) → last ≡ previous_top_level_reserved (indentation_of i)
+    → b ≡ (breaks && inlined_last last) → sp ≡ or_no_span last → Stands (when b (increase_top_level sp) (indentation_of i)) to → Stands (set_previous_reserved n (indentation_of to)) noted → f ≡ full (indentation_of i).indent_types → six ≡ six_in last f
     → (level ≡ indent_level false (indentation_of to)) × (level ≤ 128) → Indented (indentation_of i) breaks n (record { six = six; level = level; stacks = noted })
 by-indented i breaks n last b sp to noted f six level hl hb hp ht hn hf hs hv =
     let e : indentation_of to ≡ indented_in breaks (indentation_of i) = ht.is ∙ rw (hb, hp, inlined-is, hl) in
     record { six = hs ∙ rw (hl, hf); level = hv.0 ∙ rw e; low = hv.1; stands = rw (← e) hn }
-
-pub by_over : (limit : Limit) (most n : ℕ) → limit ≡ limits.Some most → ltb most n ≡ over_limit limit n
-unfolding over_limit
-by_over limit most n e = rw e
-
-pub by-breaks : (comment active b : Bool) (limit : Limit) (n : ℕ) → comment ≡ false → active ≡ false → b ≡ over_limit limit n → b ≡ (comment || not active && over_limit limit n)
-by-breaks comment active b limit n p q e = e ∙ rw (p, q)
 
 -- ---- the word
 

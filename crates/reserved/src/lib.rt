@@ -3,15 +3,15 @@
 
 ghost use Rattle.std.specs.Prelude.{◌≡◌, not, ◌&&◌, ◌||◌, ◌<◌};
 ghost use Rattle.rules.specs.Formatter.{over_limit, format_newline_reserved_word, format_reserved};
-ghost use Rattle.indentation.specs.Of.{span_in, indentation_of, Clean};
+ghost use Rattle.indentation.specs.Of.{indentation_of, Clean};
 ghost use Rattle.keeps.specs.CaseOf.{case_of};
 ghost use Rattle.state.specs.Of.{Known, Ready, Handled, word_of};
 ghost use Rattle.reserved.specs.Inlined.{inlined_last, or_no_span, six_in, Indented};
 
 use around::after_line_comment;
-use indentation::{Indentation, TopLevel};
+use indentation::Indentation;
 use keeps::case_for;
-use rules::{Case, Limit, SpanInfo};
+use rules::{Case, SpanInfo};
 use state::{Context, State, value_of};
 use tokens::value_at;
 
@@ -37,16 +37,17 @@ pub fn case_of(sheet: &[u8], x: Context, i: usize) -> Case
 
 // ---- a newline word
 
-fn over_limit(limit: Limit, n: u32) -> bool
+#[tactic(auto, unfolding(rules::specs::Formatter::over_limit))]
+fn over_limit(limit: Option<u32>, n: u32) -> bool
     ensures { result ≡ over_limit limit n }
 {
     match limit {
-        Limit::None => true,
-        Limit::Some(most) => most < n,
+        None => true,
+        Some(most) => most < n,
     }
 }
 
-fn breaks_before(comment: bool, active: bool, limit: Limit, span: u32) -> bool
+fn breaks_before(comment: bool, active: bool, limit: Option<u32>, span: u32) -> bool
     ensures { result ≡ (comment || not active && over_limit limit span) }
 {
     if comment {
@@ -59,39 +60,42 @@ fn breaks_before(comment: bool, active: bool, limit: Limit, span: u32) -> bool
 }
 
 // A top-level word that was inlined is indented now.
-fn indents_last(breaks: bool, last: TopLevel) -> bool
-    ensures { result ≡ (breaks && inlined_last (span_in last)) }
+#[tactic(auto, unfolding(crate::specs::Inlined::inlined_last))]
+fn indents_last(breaks: bool, last: Option<SpanInfo>) -> bool
+    ensures { result ≡ (breaks && inlined_last last) }
 {
     if breaks {
         return match last {
-            TopLevel::Nothing => false,
-            TopLevel::Span(sp) => !sp.newline_after,
+            None => false,
+            Some(sp) => !sp.newline_after,
         };
     }
     false
 }
 
-fn span_in(last: TopLevel) -> SpanInfo
-    ensures { result ≡ or_no_span (span_in last) }
+#[tactic(auto, unfolding(crate::specs::Inlined::or_no_span))]
+fn span_in(last: Option<SpanInfo>) -> SpanInfo
+    ensures { result ≡ or_no_span last }
 {
     match last {
-        TopLevel::Nothing => SpanInfo {
+        None => SpanInfo {
             full_span: 0,
             blocks: 0,
             newline_before: false,
             newline_after: false,
             arguments: 0,
         },
-        TopLevel::Span(sp) => sp,
+        Some(sp) => sp,
     }
 }
 
-fn six_inlined(last: TopLevel, full: bool) -> bool
-    ensures { result ≡ six_in (span_in last) full }
+#[tactic(auto, unfolding(crate::specs::Inlined::six_in))]
+fn six_inlined(last: Option<SpanInfo>, full: bool) -> bool
+    ensures { result ≡ six_in last full }
 {
     match last {
-        TopLevel::Nothing => false,
-        TopLevel::Span(sp) => {
+        None => false,
+        Some(sp) => {
             if sp.newline_after {
                 return false;
             }

@@ -1,28 +1,4 @@
--- The call's outcome from what the checks found. Assumes nothing.
-use mathlib.Core.Path.{◌≡◌, ap, sym, ◌∙◌}
-use mathlib.Core.Bool.{Bool, true, false}
-use mathlib.Core.List.{List}
-use Prim.Native.Nat.{ℕ}
-use Rattle.rules.specs.declared.Checked.{Checked}
-use Rattle.rules.specs.declared.Checked.TheVariants as found
-use Rattle.rules.specs.declared.Counts.{Counts}
-use Rattle.rules.specs.declared.Outcome.{Outcome}
-use Rattle.rules.specs.Checks.{checked}
-use Rattle.rules.specs.Sheet.{options_of, params_of, tokens_of}
-use Rattle.rules.specs.Answer.{is_withdrawn}
-use Rattle.rules.specs.Compacted.{refusal, outcome_of}
-use Rattle.rules.specs.Room.{room, room_as, room_for}
+-- A sheet that the checks found sound.
+use Rattle.checks.proofs.Sound.{answer-sheeted, sound-sheeted}
 
-module _ (s : List ℕ) (f : Checked) (e : f ≡ checked s) where
-  pub by-refused : (d : Checked) (r : Outcome) → f ≡ d → r ≡ room_as s d → r ≡ room_for s
-  unfolding room_for
-  by-refused d r g h = h ∙ ap (room_as s) (sym g ∙ e)
-
-module _ (s : List ℕ) (c : Counts) (b : Bool) (w : b ≡ is_withdrawn s) where
-  pub by-withdrawn : (r : Outcome) → b ≡ true → r ≡ outcome_of (refusal 14 28) → r ≡ room_as s (found.Sound c)
-  unfolding room_as
-  by-withdrawn r t h = rw (← w, t) h
-
-  pub by-sum : (n : ℕ) → b ≡ false → n ≡ room (options_of s) (params_of s c) (tokens_of s c) → record { refusal = 0; place = 0; length = n } ≡ room_as s (found.Sound c)
-  unfolding room_as
-  by-sum n t h = rw (← w, t) (ap (λ (m : ℕ). record { refusal = 0; place = 0; length = m }) h)
+pub ruleset sound = (answer-sheeted, sound-sheeted)

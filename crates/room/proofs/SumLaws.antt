@@ -15,20 +15,19 @@ use Rattle.rules.specs.Switch.{Switch, turn_of, switch_after, switched_on}
 use Rattle.rules.specs.Params.{advances}
 use Rattle.rules.specs.Rows.{lays_out}
 use Rattle.rules.specs.Room.{room_of, counter_after, room_from, room}
-use Rattle.records.specs.Sheeted.{Sheeted}
-use Rattle.places.proofs.Laws.{list-next, list-end}
-use Rattle.params.proofs.Shows.{key_in, value_in}
+use Rattle.places.proofs.Laws.{list_next, list_end}
 use Rattle.switched.proofs.Count.{when-most}
 use Rattle.room.specs.declared.Tally.{Tally}
-use Rattle.room.specs.Tallied.{most, TokenIn, Tallied}
-
-pub token-in : (s : List ℕ) (c : Counts) (i : ℕ) → Sheeted s c → i < c.tokens → (t : Token) → t ≡ token_at s i → TokenIn s c t
-token-in s c i h l t e = record { sheeted = h; key_in = key_in s c t i h l e; value_in = value_in s c t i h l e }
+use Rattle.room.specs.Tallied.{most, Tallied}
 
 module _ (s : List ℕ) (c : Counts) (o : FormatOptions) where
   -- the tokens from i on, those before having counted sum; index is the counter
   abbrev sum_from : ℕ → ℕ → ℕ → Switch → ℕ
   sum_from sum index i w = sum + room_from o (params_of s c) w index (tokens_from s (body_at c) i (c.tokens - i))
+
+  pub none_left : (index i : ℕ) (w : Switch) → c.tokens ≤ i → room_from o (params_of s c) w index (tokens_from s (body_at c) i (c.tokens - i)) ≡ 0
+  unfolding room_from
+  none_left index i w l = rw (list_end (token_of s (body_at c)) i c.tokens l)
 
   -- before token i: with what is left it is the whole; neither the sum nor the counter is large
   pub record Summing (sum index i : ℕ) (w : Switch) : Type 0 where
@@ -42,13 +41,6 @@ module _ (s : List ℕ) (c : Counts) (o : FormatOptions) where
   sum_begins w e = record { few = omega arith; small = omega arith; within = omega arith; left = rw (e, sub-zero c.tokens) (omega arith) }
 
   module _ (sum index i : ℕ) (w : Switch) (inv : Summing sum index i w) where
-    pub sum_done : c.tokens ≤ i → sum ≡ room o (params_of s c) (tokens_of s c)
-    unfolding room_from
-    sum_done l =
-        let e : sum_from sum index i w ≡ sum + 0 = rw (list-end (token_of s (body_at c)) i c.tokens l) in
-        let z : sum + 0 ≡ sum = omega arith in
-        sym z ∙ sym e ∙ inv.left
-
     -- token i is taken
     module _ (l : i < c.tokens) where
       abbrev here : Turn
@@ -56,7 +48,7 @@ module _ (s : List ℕ) (c : Counts) (o : FormatOptions) where
 
       step : sum_from sum index i w ≡ sum_from (sum + room_of o (params_of s c) index here (token_of s (body_at c) i)) (counter_after (params_of s c) here (token_of s (body_at c) i) index) (i + 1) (switch_after here w)
       unfolding room_from
-      step = rw (list-next (token_of s (body_at c)) i c.tokens l) (omega arith)
+      step = rw (list_next (token_of s (body_at c)) i c.tokens l) (omega arith)
 
       pub sum_on : (base : ℕ) → base ≡ body_at c → (t : Token) → t ≡ token_at s i → (u : Turn) → u ≡ turn_of w (token_of s base i).kind (token_of s base i).value
           → (r : Tally) → Tallied s c o u t index r → (x : Switch) → x ≡ switch_after u w → Summing (sum + r.bytes) r.index (i + 1) x

@@ -9,20 +9,12 @@ use Rattle.rules.specs.Words.{body_at}
 use Rattle.rules.specs.Sheet.{body_part, token_read, params_of}
 use Rattle.rules.specs.Room.{shown_by, room_of, counter_after}
 use Rattle.tokens.specs.Placed.{Inside}
-use Rattle.records.specs.Sheeted.{Sheeted}
-use Rattle.params.specs.Entries.{KeyIn}
 use Rattle.params.specs.declared.Shown.{Shown}
 use Rattle.room.specs.declared.Tally.{Tally}
 
 -- no token counts more: 32,768 bytes that are all line feeds, with an indent of 128 * 255 after each, come near it; 1,024 times as much is far below 2 ^ 64
 abbrev pub most : ℕ
 most = 1100000000
-
--- a token of a checked sheet, its places in the bodies
-pub record TokenIn (s : List ℕ) (c : Counts) (t : Token) : Type 0 where
-  pub sheeted : Sheeted s c
-  pub key_in : KeyIn s (body_at c) t.key
-  pub value_in : Inside s (body_at c) t.value
 
 -- r is what it shows, i being the counter
 pub record Showing (s : List ℕ) (c : Counts) (t : Token) (i : ℕ) (r : Shown) : Type 0 where

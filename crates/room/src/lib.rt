@@ -1,12 +1,9 @@
 // Wish 9: the sum of what each token may add to the text. A buffer that long is always enough.
 #![tactic(auto)]
 
-ghost use Rattle.std.specs.Prelude.{if◌then◌else◌, ◌≡◌, [], ◌∷◌, ◌+◌, ◌*◌, ◌≤◌, ◌<◌, eqb, length};
-ghost use Rattle.rules.specs.declared.TokenKind.TheVariants.{Whitespace};
+ghost use Rattle.std.specs.Prelude.{if◌then◌else◌, ◌≡◌, [], ◌∷◌, ◌+◌, ◌*◌, ◌≤◌, ◌<◌, length, Ok};
 ghost use Rattle.rules.specs.declared.Turn.TheVariants as taken;
-ghost use Rattle.rules.specs.declared.Checked.TheVariants as found;
 ghost use Rattle.rules.specs.Base.{same};
-ghost use Rattle.rules.specs.Tokens.{is};
 ghost use Rattle.rules.specs.Text.{line_feeds};
 ghost use Rattle.rules.specs.Words.{body_at};
 ghost use Rattle.rules.specs.Sheet.{body_part, options_of, params_of, tokens_of};
@@ -15,17 +12,18 @@ ghost use Rattle.rules.specs.Room.{full_indent, room_laid_out, room as sum_of, r
 ghost use Rattle.tokens.specs.Placed.{Inside};
 ghost use Rattle.records.specs.Sheeted.{Sheeted};
 ghost use Rattle.ascii.specs.Part.{part};
-ghost use Rattle.room.specs.Tallied.{most, TokenIn, Showing, Tallied};
+ghost use Rattle.params.specs.Entries.{TokenIn};
+ghost use Rattle.room.specs.Tallied.{most, Showing, Tallied};
 
 use fmt_switch::Switch;
-use params::{Entry, Shown, get};
+use params::{Shown, get};
 use records::{body_at, is_withdrawn, options_of};
-use rules::{Checked, Counts, FormatOptions, Indent, Outcome, Place, Token, TokenKind, Turn};
+use rules::{Counts, FormatOptions, Indent, Outcome, Place, Token, TokenKind, Turn};
 use switched::{lays_out, turn_at};
 use tokens::{to_usize, token_at};
 
 // What is counted for a token, and the placeholders' counter after it.
-#[derive(Drop)]
+#[derive(Clone, Copy)]
 pub struct Tally {
     pub bytes: u64,
     pub index: u32,
@@ -33,58 +31,35 @@ pub struct Tally {
 
 // ---- a value
 
-fn wide(b: u8) -> u64
-    ensures { (result ≡ b) × (result < 256) }
-{
-    b as u64
-}
-
+#[tactic(auto, unfolding(rules::specs::Room::full_indent))]
 fn full_indent(indent: Indent) -> u64
     ensures { (result ≡ full_indent indent) × (result ≤ 32640) }
 {
     match indent {
-        Indent::Spaces(n) => 128 * wide(n),
+        Indent::Spaces(n) => 128 * u64::from(n),
         Indent::Tabs => 128,
     }
 }
 
-fn feed(b: u8) -> u16
-    ensures { (result ≡ (if eqb b 10 then 1 else 0)) × (result ≤ 1) }
-{
-    if b == 10 { 1 } else { 0 }
-}
-
 // No branch for each byte, and a count as narrow as it may be: more bytes are looked at at once.
+#[tactic(auto, using(crate::proofs::ValueLaws::feeds_on, crate::proofs::ValueLaws::feeds_done))]
 fn line_feeds(s: &[u8], start: usize, n: usize) -> u64
     requires { (start + n ≤ length s.now) × (n ≤ 32768) }
     ensures { (result ≡ line_feeds (part s.now start n)) × (result ≤ n) }
 {
     let mut feeds: u16 = 0;
-    let mut i: usize = 0;
-    while i < n {
-        feeds += feed(s[start + i]);
-        i += 1;
+    for i in 0..n {
+        feeds += u16::from(s[start + i] == b'\n');
     }
-    feeds as u64
+    u64::from(feeds)
 }
 
+#[tactic(auto, using(crate::proofs::ValueLaws::other_length, crate::proofs::ValueLaws::by_byte))]
 fn is_semicolon(s: &[u8], start: usize, n: usize) -> bool
     requires { start + n ≤ length s.now }
     ensures { result ≡ same (part s.now start n) (59 ∷ []) }
 {
-    if n != 1 {
-        return false;
-    }
-    s[start] == b';'
-}
-
-fn lines_after(ends: bool, lines: u8) -> u64
-    ensures { (result ≡ (if ends then lines else 0)) × (result < 256) }
-{
-    if ends {
-        return wide(lines);
-    }
-    0
+    n == 1 && s[start] == b';'
 }
 
 // Line feeds, each with an indent after it.
@@ -96,76 +71,68 @@ fn with_indents(full: u64, feeds: u64) -> u64
 }
 
 // A token that is laid out and shows the bytes of a place.
+#[tactic(auto, using(crate::proofs::ValueLaws::place_short, crate::proofs::ValueLaws::counted))]
 fn room_laid_out(sheet: &[u8], c: Counts, o: FormatOptions, p: Place) -> u64
     requires { (Sheeted sheet.now c) × (Inside sheet.now (body_at c) p) }
     ensures { (result ≡ room_laid_out o (body_part sheet.now (body_at c) p)) × (result ≤ most) }
 {
     let start = body_at(c) + to_usize(p.start);
     let n = to_usize(p.len);
-    let indent = o.indent;
-    let full = full_indent(indent);
+    let full = full_indent(o.indent);
     let feeds = line_feeds(sheet, start, n);
-    let lines = lines_after(is_semicolon(sheet, start, n), o.lines_between_queries);
-    n as u64 + (3 + 2 * full) + with_indents(full, feeds) + lines
+    let lines = if is_semicolon(sheet, start, n) {
+        o.lines_between_queries
+    } else {
+        0
+    };
+    n as u64 + (3 + 2 * full) + with_indents(full, feeds) + u64::from(lines)
 }
 
 // ---- a token
 
 // What it shows, and the counter after it: a placeholder its entry, if there is one.
+#[tactic(auto, unfolding(rules::specs::Room::shown_by, rules::specs::Room::counter_after, rules::specs::Rows::lays_out, rules::specs::Base::when))]
 fn shown_by(sheet: &[u8], c: Counts, t: Token, index: u32) -> Shown
     requires { (TokenIn sheet.now c t) × (index < 4294967295) }
     ensures { Showing sheet.now c t index result }
 {
-    let kind = t.kind;
-    if lays_out(Turn::LaidOut, kind) {
+    if lays_out(Turn::LaidOut, t.kind) {
         return get(sheet, c, t, index);
     }
-    let place = t.value;
     Shown {
-        place,
-        entry: Entry::Nothing,
+        place: t.value,
+        entry: None,
         index,
     }
 }
 
-fn is_whitespace(kind: TokenKind) -> bool
-    ensures { result ≡ is kind Whitespace }
-{
-    match kind {
-        TokenKind::Whitespace => true,
-        _ => false,
-    }
-}
-
 // A token that is laid out: Whitespace is not kept.
+#[tactic(auto, using(crate::proofs::TokenLaws::not_white), unfolding(rules::specs::Room::room_of, rules::specs::Room::counter_after, rules::specs::Rows::lays_out, rules::specs::Base::when))]
 fn room_if_kept(sheet: &[u8], c: Counts, o: FormatOptions, t: Token, index: u32) -> Tally
     requires { (TokenIn sheet.now c t) × (index < 4294967295) }
     ensures { Tallied sheet.now c o taken.LaidOut t index result }
 {
-    let kind = t.kind;
-    if is_whitespace(kind) {
+    if t.kind == TokenKind::Whitespace {
         return Tally { bytes: 0, index };
     }
     let shown = shown_by(sheet, c, t, index);
-    let place = shown.place;
     Tally {
-        bytes: room_laid_out(sheet, c, o, place),
+        bytes: room_laid_out(sheet, c, o, shown.place),
         index: shown.index,
     }
 }
 
 // A token, as it is taken.
+#[tactic(auto, using(crate::proofs::ValueLaws::place_short, places::proofs::Laws::length_part), unfolding(rules::specs::Room::room_of, rules::specs::Room::counter_after, rules::specs::Rows::lays_out, rules::specs::Base::when))]
 fn room_of(sheet: &[u8], c: Counts, o: FormatOptions, turn: Turn, t: Token, index: u32) -> Tally
     requires { (TokenIn sheet.now c t) × (index < 4294967295) }
     ensures { Tallied sheet.now c o turn t index result }
 {
-    let v = t.value;
     match turn {
-        Turn::Dropped => Tally { bytes: 0, index },
-        Turn::Switches(_) => Tally { bytes: 0, index },
+        Turn::Dropped | Turn::Switches(_) => Tally { bytes: 0, index },
         Turn::LaidOut => room_if_kept(sheet, c, o, t, index),
         Turn::Copied => Tally {
-            bytes: v.len as u64,
+            bytes: u64::from(t.value.len),
             index,
         },
     }
@@ -173,30 +140,28 @@ fn room_of(sheet: &[u8], c: Counts, o: FormatOptions, turn: Turn, t: Token, inde
 
 // ---- the whole
 
+#[tactic(auto, using(crate::proofs::SumLaws::sum_begins, crate::proofs::SumLaws::none_left))]
 fn room(sheet: &[u8], c: Counts) -> u64
     requires { Sheeted sheet.now c }
     ensures { result ≡ sum_of (options_of sheet.now) (params_of sheet.now c) (tokens_of sheet.now c) }
 {
     let base = body_at(c);
-    let n = c.tokens;
     let o = options_of(sheet);
     let mut sum: u64 = 0;
     let mut index: u32 = 0;
     let mut switch = Switch::new();
-    let mut i: usize = 0;
-    while i < n {
+    for i in 0..c.tokens {
         let t = token_at(sheet, i);
-        let kind = t.kind;
-        let turn = turn_at(sheet, base, i, switch, kind);
+        let turn = turn_at(sheet, base, i, switch, t.kind);
         let one = room_of(sheet, c, o, turn, t, index);
         sum += one.bytes;
         index = one.index;
         switch = switch.after(turn);
-        i += 1;
     }
     sum
 }
 
+#[tactic(auto, unfolding(rules::specs::Compacted::outcome_of))]
 fn refused(number: u32, place: usize) -> Outcome
     ensures { result ≡ outcome_of (unwritten number place) }
 {
@@ -208,9 +173,10 @@ fn refused(number: u32, place: usize) -> Outcome
 }
 
 // Of a sheet that checks 1 to 4 found sound.
+#[tactic(auto, unfolding(rules::specs::Room::room_as))]
 fn room_sound(sheet: &[u8], c: Counts) -> Outcome
     requires { Sheeted sheet.now c }
-    ensures { result ≡ room_as sheet.now (found.Sound c) }
+    ensures { result ≡ room_as sheet.now (Ok c) }
 {
     if is_withdrawn(sheet) {
         return refused(14, 28);
@@ -223,15 +189,12 @@ fn room_sound(sheet: &[u8], c: Counts) -> Outcome
 }
 
 // Of any bytes.
+#[tactic(auto, using(crate::proofs::CallLaws::sound), unfolding(rules::specs::Room::room_for, rules::specs::Room::room_as))]
 pub fn room_for(sheet: &[u8]) -> Outcome
     ensures { result ≡ room_for sheet.now }
 {
-    let found = checks::check(sheet);
-    match found {
-        Checked::Sound(c) => room_sound(sheet, c),
-        Checked::Size => refused(1, 0),
-        Checked::Word(p) => refused(2, p),
-        Checked::Place(p) => refused(3, p),
-        Checked::Byte(p) => refused(4, p),
+    match checks::check(sheet) {
+        Ok(c) => room_sound(sheet, c),
+        Err(offence) => refused(offence.number(), offence.place()),
     }
 }

@@ -1,24 +1,23 @@
 -- A list for rows holds these rows, so what a function promises of the words it promises of the rows. Assumes nothing.
 use mathlib.Core.Path.{◌≡◌, refl, sym, ap, ◌∙◌}
 use mathlib.Core.Bool.{Bool, true, false}
-use mathlib.Core.Option.{Option, none, some}
+use Rattle.std.specs.Prelude.{Option, None, Some, if◌then◌else◌}
 use mathlib.Core.List.{List, [], ◌∷◌, ◌++◌, map, append_assoc}
 use Prim.Native.Nat.{ℕ, zero, suc, ◌+◌, ◌-◌, ◌*◌, ◌<◌}
 use native.Mathlib.Omega.{arith}
 use lib.Dec.{eqb}
-use lib.ListN.{length, get_or, replicate}
+use lib.ListN.{length, get_or, replicate, length-map}
 use borrow.Author.Tests.{ne_eqb}
 use Rattle.rules.specs.Base.{◌▹◌, when}
-use Rattle.std.specs.Prelude.{if◌then◌else◌}
 use Rattle.rules.specs.Rows.{Row, between, clip, entry_word, row_words, rows_words}
 use Rattle.rows.specs.Listing.{entry_of, row_of, row_at, rows_in, listing, count_after, Words}
-use Rattle.rows.proofs.ReadLaws.{length-rows, length-in, length-map, token-in, entry_in, start-in, len-in}
+use Rattle.rows.proofs.ReadLaws.{length-rows, length-in, token-in, entry_in, start-in, len-in}
 
 -- an entry's number that is below the word for none
-pub entry-back : (o : Option ℕ) → ((n : ℕ) → o ≡ some n → n < 4294967295) → entry_of (entry_word o) ≡ o
+pub entry-back : (o : Option ℕ) → ((n : ℕ) → o ≡ Some n → n < 4294967295) → entry_of (entry_word o) ≡ o
 unfolding entry_of entry_word
-entry-back none l = refl
-entry-back (some n) l = let h : n < 4294967295 = l n refl in rw (ne_eqb n 4294967295 (λ z. omega arith))
+entry-back None l = refl
+entry-back (Some n) l = let h : n < 4294967295 = l n refl in rw (ne_eqb n 4294967295 (λ z. omega arith))
 
 -- each row's entry has a word
 unfoldable pub Worded : List Row → Type 0
@@ -51,7 +50,7 @@ worded_word : (n : ℕ) → entry_of (entry_word (entry_of n)) ≡ entry_of n
 unfolding entry_of entry_word
 worded_word n = by-test (eqb n 4294967295) refl
   where
-    by-test : (b : Bool) → eqb n 4294967295 ≡ b → entry_of (entry_word (if b then none else some n)) ≡ (if b then none else some n)
+    by-test : (b : Bool) → eqb n 4294967295 ≡ b → entry_of (entry_word (if b then None else Some n)) ≡ (if b then None else Some n)
     by-test true e = refl
     by-test false e = rw e
 
@@ -72,11 +71,11 @@ worded_clip n rs w = worded_map (clip n) (λ r. refl) rs w
 -- ---- after a cut
 
 module _ (d d' : List ℕ) (count low : ℕ) (n : length d' ≡ length d) (h : d' ≡ listing (length d) (map (clip low) (rows_in count d))) where
-  pub clip-rows : rows_in count d' ≡ map (clip low) (rows_in count d)
-  clip-rows = rows_back d' (map (clip low) (rows_in count d)) count (rw (← n) at h) (worded_clip low (rows_in count d) (worded_in count d)) (length-map (clip low) (rows_in count d) ∙ length-in count d)
+  pub clip_rows : rows_in count d' ≡ map (clip low) (rows_in count d)
+  clip_rows = rows_back d' (map (clip low) (rows_in count d)) count (rw (← n) at h) (worded_clip low (rows_in count d) (worded_in count d)) (length-map (rows_in count d) (clip low) ∙ length-in count d)
 
-  pub clip-words : Words d' count
-  clip-words = words_back d' (map (clip low) (rows_in count d)) count (rw (← n) at h) (worded_clip low (rows_in count d) (worded_in count d)) (length-map (clip low) (rows_in count d) ∙ length-in count d)
+  pub clip_words : Words d' count
+  clip_words = words_back d' (map (clip low) (rows_in count d)) count (rw (← n) at h) (worded_clip low (rows_in count d) (worded_in count d)) (length-map (rows_in count d) (clip low) ∙ length-in count d)
 
 -- ---- after a token
 
@@ -91,8 +90,8 @@ module _ (d d' : List ℕ) (count low : ℕ) (b : Bool) (token entry start len :
 
   length_taken : (c : Bool) → length (map (clip low) (rows_in count d) ▹ when c (λ qs. row_of token entry start len ∷ qs)) ≡ count_after c count
   unfolding when count_after
-  length_taken true = let e = length-map (clip low) (rows_in count d) in let f = length-in count d in omega arith
-  length_taken false = length-map (clip low) (rows_in count d) ∙ length-in count d
+  length_taken true = let e = length-map (rows_in count d) (clip low) in let f = length-in count d in omega arith
+  length_taken false = length-map (rows_in count d) (clip low) ∙ length-in count d
 
   module _ (h : d' ≡ listing (length d) rows_taken) where
     pub rows-after : rows_in (count_after b count) d' ≡ rows_taken

@@ -1,6 +1,6 @@
 -- The words of a row, read in a list: A stands before them, and rest after them. Assumes nothing.
 use mathlib.Core.Path.{◌≡◌, refl, ap, ◌∙◌}
-use mathlib.Core.List.{List, [], ◌∷◌, ◌++◌, map}
+use mathlib.Core.List.{List, [], ◌∷◌, ◌++◌}
 use Prim.Native.Nat.{ℕ, zero, suc, ◌+◌, ◌*◌, ◌^◌}
 use native.Mathlib.Omega.{arith}
 use native.Mathlib.Nat.{mod-add-div'}
@@ -22,10 +22,6 @@ pub length-in : (k : ℕ) (d : List ℕ) → length (rows_in k d) ≡ k
 unfolding rows_in
 length-in zero d = refl
 length-in (suc k) d = ap suc (length-in k d)
-
-pub length-map : (f : Row → Row) (rs : List Row) → length (map f rs) ≡ length rs
-length-map f [] = refl
-length-map f (r ∷ rs) = ap suc (length-map f rs)
 
 -- ---- one row
 

@@ -1,24 +1,21 @@
 -- Laws of `clip`, `add` and `trim`, over plain variables. Assumes nothing.
 use mathlib.Core.Path.{◌≡◌, refl, sym, ap, ◌∙◌}
 use mathlib.Core.Bool.{Bool, true, false}
-use mathlib.Core.Option.{none, some}
+use Rattle.std.specs.Prelude.{None, Some, if◌then◌else◌}
 use mathlib.Core.List.{List, [], ◌∷◌, ◌++◌, map, append_assoc}
-use Prim.Native.Nat.{ℕ, suc, ◌+◌, ◌-◌, ◌*◌, ◌/◌, ◌%◌, ◌^◌, ◌≤◌, ◌<◌, min}
+use Prim.Native.Nat.{ℕ, suc, ◌+◌, ◌-◌, ◌*◌, ◌≤◌, ◌<◌, min}
 use native.Mathlib.Omega.{arith}
 use lib.Dec.{eqb}
-use lib.ListN.{length, get_or, set, replicate, length-append, length-set}
+use lib.ListN.{length, set, replicate, length-append}
 use lib.Seq.{set_at}
 use borrow.Author.Tests.{eqb-true}
-use Rattle.rules.specs.Base.{◌▹◌, when}
-use Rattle.std.specs.Prelude.{if◌then◌else◌}
+use Rattle.rules.specs.Base.{◌▹◌}
 use Rattle.rules.specs.Rows.{Row, between, clip, shift, entry_word, row_words, rows_words}
 use Rattle.rows.specs.declared.Span.{Span}
-use Rattle.rows.specs.Listing.{start_at, len_at, with_span, entry_of, row_of, row_at, rows_in, listing, count_after, InOrder, Words, Listed}
+use Rattle.rows.specs.Listing.{start_at, len_at, with_span, entry_of, row_of, row_at, rows_in, listing, InOrder, Words, Listed}
 use Rattle.rows.proofs.ReadLaws.{length-rows, length-in}
-use Rattle.rows.proofs.Back.{clip-rows}
 use Rattle.rows.proofs.Order.{order-before, clip-same, clips_same}
-use Rattle.rows.proofs.NumberLaws.{sum_back}
-use Rattle.rows.proofs.WalkLaws.{set-append-add, moved, span-put, due, Left, walk_begins, walk_ends, one_more, in_list, start_is, len_is, walk-on}
+use Rattle.rows.proofs.WalkLaws.{set-append-add, moved, span-put, due, Left, walk_begins, one_more, start_is, len_is, walk-on}
 
 -- ---- clip
 
@@ -27,14 +24,8 @@ module _ (d₀ : List ℕ) (count low : ℕ) where
     pub left : Left (clip low) d₀ count d i
     pub order : InOrder (rows_in i d₀)
 
-  pub clip-begins : Listed d₀ count → Clipping d₀ count
-  clip-begins l = record { left = walk_begins (clip low) d₀ count l.listed; order = l.order }
-
-  pub clip-in : (d : List ℕ) (i : ℕ) → Clipping d i → 0 < i → 5 * (i - 1) + 5 ≤ length d
-  clip-in d i c h = in_list (clip low) d₀ count d i (5 * (i - 1)) c.left h refl
-
-  pub clip-ends : (d : List ℕ) (i : ℕ) → Clipping d i → i ≤ 0 → d ≡ due (clip low) d₀ count
-  clip-ends d i c h = walk_ends (clip low) d₀ count d i (omega arith) c.left
+  pub clip_begins : Listed d₀ count → Clipping d₀ count
+  clip_begins l = record { left = walk_begins (clip low) d₀ count l.listed; order = l.order }
 
   -- the rows that are left are as they shall be
   done : (d : List ℕ) (i : ℕ) → Left (clip low) d₀ count d i → map (clip low) (rows_in i d₀) ≡ rows_in i d₀ → d ≡ due (clip low) d₀ count
@@ -58,8 +49,8 @@ module _ (d₀ : List ℕ) (count low : ℕ) where
     unfolding InOrder
     before_same e = let x = start-here in clips_same low here.start (rows_in (i - 1) d₀) in_order (omega arith)
 
-    pub clip-stops : s.start ≤ low → s.len ≤ low - s.start → d ≡ due (clip low) d₀ count
-    clip-stops b e =
+    pub clip_stops : s.start ≤ low → s.len ≤ low - s.start → d ≡ due (clip low) d₀ count
+    clip_stops b e =
         let x = start-here in
         let y = len-here in
         let k : here.start + here.len ≤ low = omega arith in
@@ -82,31 +73,14 @@ module _ (d₀ : List ℕ) (count low : ℕ) where
     }
 
     -- a row that starts past the cut has none of its bytes left
-    pub clip-empties : (d' : List ℕ) → low < s.start → d' ≡ with_span d at low 0 → length d' ≡ length d → Clipping d' (i - 1)
-    clip-empties d' k w l = clip-on low 0 d' (omega arith) (omega arith) (omega arith) w l
+    pub clip_empties : (d' : List ℕ) → low < s.start → d' ≡ with_span d at low 0 → length d' ≡ length d → Clipping d' (i - 1)
+    clip_empties d' k w l = clip-on low 0 d' (omega arith) (omega arith) (omega arith) w l
 
     -- the row that the cut goes through is the last that changes
-    pub clip-cuts : (n : ℕ) (d' : List ℕ) → s.start ≤ low → n < s.len → n ≡ low - s.start → d' ≡ with_span d at s.start n → length d' ≡ length d → d' ≡ due (clip low) d₀ count
-    clip-cuts n d' b k e w l = done d' (i - 1) (clip-on s.start n d' (omega arith) (omega arith) e w l).left (before_same b)
-
--- ---- the words of one row
-
-pub span-put-is : (d : List ℕ) (at start len x y : ℕ) → x ≡ start % 2 ^ 32 → y ≡ start / 2 ^ 32 → set (set (set d (at + 2) x) (at + 3) y) (at + 4) len ≡ with_span d at start len
-unfolding with_span
-span-put-is d at start len x y e f = rw (e, f)
-
-pub start-read : (d : List ℕ) (at x y : ℕ) → x ≡ get_or d (at + 2) 0 → y ≡ get_or d (at + 3) 0 → x + y * 4294967296 ≡ start_at d at
-unfolding start_at
-start-read d at x y e f = rw (e, f)
-
-pub len_read : (d : List ℕ) (at x : ℕ) → x ≡ get_or d (at + 4) 0 → x ≡ len_at d at
-unfolding len_at
-len_read d at x e = e
+    pub clip_cuts : (d' : List ℕ) → s.start ≤ low → low - s.start < s.len → d' ≡ with_span d at s.start (low - s.start) → length d' ≡ length d → d' ≡ due (clip low) d₀ count
+    clip_cuts d' b k w l = done d' (i - 1) (clip-on s.start (low - s.start) d' (omega arith) (omega arith) refl w l).left (before_same b)
 
 -- ---- add
-
-pub two-set : (d d' : List ℕ) (i j a b : ℕ) → length d' ≡ length (set (set d i a) j b) → length d' ≡ length d
-two-set d d' i j a b e = e ∙ length-set (set d i a) j b ∙ length-set d i a
 
 five : (r : Row) → length (row_words r) ≡ 5
 unfolding row_words
@@ -116,7 +90,7 @@ word_back : (w : ℕ) → entry_word (entry_of w) ≡ w
 unfolding entry_word entry_of
 word_back w = by-test (eqb w 4294967295) refl
   where
-    by-test : (b : Bool) → eqb w 4294967295 ≡ b → entry_word (if b then none else some w) ≡ w
+    by-test : (b : Bool) → eqb w 4294967295 ≡ b → entry_word (if b then None else Some w) ≡ w
     by-test true e = sym (eqb-true w 4294967295 e)
     by-test false e = refl
 
@@ -150,9 +124,9 @@ module _ (d d' : List ℕ) (count token entry start len : ℕ) (w : Words d coun
       let n : length d - length there ≡ suc (suc (suc (suc (suc (length d - length there - 5))))) = omega arith in
       ap (λ (k : ℕ). replicate {A = ℕ} k 0) n
 
-  pub row-added : d' ≡ with_span (set (set d (5 * count) token) (5 * count + 1) entry) (5 * count) start len → d' ≡ listing (length d) (row_of token entry start len ∷ rows_in count d)
+  pub row_added : d' ≡ with_span (set (set d (5 * count) token) (5 * count + 1) entry) (5 * count) start len → d' ≡ listing (length d) (row_of token entry start len ∷ rows_in count d)
   unfolding listing rows_words
-  row-added e =
+  row_added e =
       let r = row_of token entry start len in
       let m : length (there ++ row_words r) ≡ length there + 5 = length-append there (row_words r) ∙ ap (λ (k : ℕ). length there + k) (five r) in
       let g : length d - length there - 5 ≡ length d - length (there ++ row_words r) = omega arith in
@@ -167,15 +141,12 @@ module _ (d d' : List ℕ) (count token entry start len : ℕ) (w : Words d coun
 abbrev pub trims : ℕ → ℕ → Row → Row
 trims end lead q = q ▹ clip end ▹ shift lead
 
+sum_back : (n a l : ℕ) → min n a + (min n (a + l) - min n a) ≡ min n (a + l)
+sum_back n a l = omega arith
+
 module _ (d₀ : List ℕ) (count end lead : ℕ) where
-  pub trim-begins : Words d₀ count → Left (trims end lead) d₀ count d₀ count
-  trim-begins w = walk_begins (trims end lead) d₀ count w
-
-  pub trim-in : (d : List ℕ) (i : ℕ) → Left (trims end lead) d₀ count d i → 0 < i → 5 * (i - 1) + 5 ≤ length d
-  trim-in d i l h = in_list (trims end lead) d₀ count d i (5 * (i - 1)) l h refl
-
-  pub trim-ends : (d : List ℕ) (i : ℕ) → Left (trims end lead) d₀ count d i → i ≤ 0 → d ≡ due (trims end lead) d₀ count
-  trim-ends d i l h = walk_ends (trims end lead) d₀ count d i (omega arith) l
+  pub trim_begins : Words d₀ count → Left (trims end lead) d₀ count d₀ count
+  trim_begins w = walk_begins (trims end lead) d₀ count w
 
   module _ (d : List ℕ) (i at : ℕ) (l : Left (trims end lead) d₀ count d i) (h : 0 < i) (ea : at ≡ 5 * (i - 1)) (s : Span) (es : s.start ≡ start_at d at) (el : s.len ≡ len_at d at) where
     abbrev it : Row
@@ -189,9 +160,9 @@ module _ (d₀ : List ℕ) (count end lead : ℕ) where
         let p : start ≡ min end it.start - lead = rw x at e in
         let q : len ≡ min end (it.start + it.len) - lead - (min end it.start - lead) = rw (x, y) at f in rw (sum_back end it.start it.len, ← q, ← p)
 
-    pub trim-on : (start len : ℕ) (d' : List ℕ) → start ≡ min end s.start - lead → len ≡ min end (s.start + s.len) - lead - (min end s.start - lead) → d' ≡ with_span d at start len → length d' ≡ length d
+    pub trim_on : (start len : ℕ) (d' : List ℕ) → start ≡ min end s.start - lead → len ≡ min end (s.start + s.len) - lead - (min end s.start - lead) → d' ≡ with_span d at start len → length d' ≡ length d
         → Left (trims end lead) d₀ count d' (i - 1)
-    trim-on start len d' e f w n = walk-on (trims end lead) d₀ count d i at l h ea d' start len w (cut_short start len e f) n
+    trim_on start len d' e f w n = walk-on (trims end lead) d₀ count d i at l h ea d' start len w (cut_short start len e f) n
 
 -- where nothing goes from the start a row is clipped alone
 unshifted : (r : Row) → shift 0 r ≡ r
@@ -204,28 +175,9 @@ unshifted r =
     mk : ℕ → ℕ → Row
     mk start len = record { token = r.token; entry = r.entry; start = start; len = len }
 
-clipped-alone : (end : ℕ) (rs : List Row) → map (clip end) rs ≡ map (trims end 0) rs
+clipped-alone : (end : ℕ) (rs : List Row) → map (trims end 0) rs ≡ map (clip end) rs
 clipped-alone end [] = refl
-clipped-alone end (r ∷ rs) = ap (λ (q : Row). q ∷ map (clip end) rs) (sym (unshifted (clip end r))) ∙ ap (λ (qs : List Row). trims end 0 r ∷ qs) (clipped-alone end rs)
+clipped-alone end (r ∷ rs) = ap (λ (q : Row). q ∷ map (trims end 0) rs) (unshifted (clip end r)) ∙ ap (λ (qs : List Row). clip end r ∷ qs) (clipped-alone end rs)
 
-pub trim-alone : (d d' : List ℕ) (count end lead : ℕ) → lead ≡ 0 → d' ≡ listing (length d) (map (clip end) (rows_in count d)) → d' ≡ listing (length d) (map (trims end lead) (rows_in count d))
-trim-alone d d' count end lead z h = rw z (h ∙ ap (listing (length d)) (clipped-alone end (rows_in count d)))
-
--- ---- after
-
-module _ (d d' d'' : List ℕ) (count low token entry start len : ℕ) (b : Bool) (h : d' ≡ listing (length d) (map (clip low) (rows_in count d))) where
-  pub after_none : b ≡ false → d' ≡ listing (length d) (map (clip low) (rows_in count d) ▹ when b (λ qs. row_of token entry start len ∷ qs))
-  unfolding when
-  after_none e = rw e h
-
-  pub after-add : length d' ≡ length d → d'' ≡ listing (length d') (row_of token entry start len ∷ rows_in count d') → b ≡ true → d'' ≡ listing (length d) (map (clip low) (rows_in count d) ▹ when b (λ qs. row_of token entry start len ∷ qs))
-  unfolding when
-  after-add n g e = rw e (rw (n, clip-rows d d' count low n h) at g)
-
-pub count-one : (b : Bool) (count : ℕ) → b ≡ true → count + 1 ≡ count_after b count
-unfolding count_after
-count-one b count e = rw e
-
-pub count_same : (b : Bool) (count : ℕ) → b ≡ false → count ≡ count_after b count
-unfolding count_after
-count_same b count e = rw e
+pub trim_alone : (end lead : ℕ) (rs : List Row) → lead ≡ 0 → map (trims end lead) rs ≡ map (clip end) rs
+trim_alone end lead rs z = rw z (clipped-alone end rs)

@@ -3,10 +3,10 @@ use mathlib.Core.Path.{◌≡◌, refl, sym, ap, ◌∙◌}
 use mathlib.Core.List.{List, [], ◌∷◌, ◌++◌, map, append_assoc}
 use Prim.Native.Nat.{ℕ, suc, ◌+◌, ◌-◌, ◌*◌, ◌/◌, ◌%◌, ◌^◌, ◌≤◌, ◌<◌}
 use native.Mathlib.Omega.{arith}
-use lib.ListN.{length, set, replicate, length-append}
+use lib.ListN.{length, set, replicate, length-append, length-map}
 use Rattle.rules.specs.Rows.{Row, row_words, rows_words}
 use Rattle.rows.specs.Listing.{start_at, len_at, with_span, row_at, rows_in, listing, Words}
-use Rattle.rows.proofs.ReadLaws.{length-rows, length-in, length-map, start-in, len-in}
+use Rattle.rows.proofs.ReadLaws.{length-rows, length-in, start-in, len-in}
 
 pub set-append-add : (xs ys : List ℕ) (n a : ℕ) → set (xs ++ ys) (length xs + n) a ≡ xs ++ set ys n a
 set-append-add [] ys n a = let e : 0 + n ≡ n = omega arith in rw e
@@ -35,22 +35,30 @@ module _ (f : Row → Row) (d₀ : List ℕ) (count : ℕ) where
     pub here : d ≡ rows_words (rows_in i d₀) ++ rest
     pub whole : due ≡ rows_words (map f (rows_in i d₀)) ++ rest
     pub room : length d ≡ length d₀
+    pub within : 5 * i ≤ length d
+    pub last : i ≤ 0 → d ≡ due
+
+  walk_in : (d rest : List ℕ) (i : ℕ) → d ≡ rows_words (rows_in i d₀) ++ rest → 5 * i ≤ length d
+  walk_in d rest i e =
+      let m = ap length e in
+      let n = length-append (rows_words (rows_in i d₀)) rest in
+      let k = length-rows (rows_in i d₀) in
+      let j = length-in i d₀ in omega arith
+
+  walk_ends : (d rest : List ℕ) (i : ℕ) → d ≡ rows_words (rows_in i d₀) ++ rest → due ≡ rows_words (map f (rows_in i d₀)) ++ rest → i ≤ 0 → d ≡ due
+  unfolding rows_in rows_words
+  walk_ends d rest i e g h = let z : i ≡ 0 = omega arith in rw z at e ∙ sym (rw z at g)
+
+  -- the first i rows are left, and rest after them
+  left_of : (d rest : List ℕ) (i : ℕ) → d ≡ rows_words (rows_in i d₀) ++ rest → due ≡ rows_words (map f (rows_in i d₀)) ++ rest → length d ≡ length d₀ → Left d i
+  left_of d rest i e g n = record { rest = rest; here = e; whole = g; room = n; within = walk_in d rest i e; last = walk_ends d rest i e g }
 
   pub walk_begins : Words d₀ count → Left d₀ count
   unfolding listing
   walk_begins w =
       let rs = rows_in count d₀ in
-      let e : length (rows_words (map f rs)) ≡ length (rows_words rs) = length-rows (map f rs) ∙ ap (λ (k : ℕ). 5 * k) (length-map f rs) ∙ sym (length-rows rs) in
-      record {
-        rest = replicate (length d₀ - length (rows_words rs)) 0;
-        here = w.words;
-        whole = ap (λ (k : ℕ). rows_words (map f rs) ++ replicate (length d₀ - k) 0) e;
-        room = refl;
-      }
-
-  pub walk_ends : (d : List ℕ) (i : ℕ) → i ≡ 0 → Left d i → d ≡ due
-  unfolding rows_in rows_words
-  walk_ends d i e l = rw e at l.here ∙ sym (rw e at l.whole)
+      let e : length (rows_words (map f rs)) ≡ length (rows_words rs) = length-rows (map f rs) ∙ ap (λ (k : ℕ). 5 * k) (length-map rs f) ∙ sym (length-rows rs) in
+      left_of d₀ (replicate (length d₀ - length (rows_words rs)) 0) count w.words (ap (λ (k : ℕ). rows_words (map f rs) ++ replicate (length d₀ - k) 0) e) refl
 
   module _ (d : List ℕ) (i at : ℕ) (l : Left d i) (h : 0 < i) (ea : at ≡ 5 * (i - 1)) where
     abbrev pub row : Row
@@ -70,13 +78,6 @@ module _ (f : Row → Row) (d₀ : List ℕ) (count : ℕ) where
     at_is : at ≡ length (rows_words before)
     at_is = ea ∙ sym (length-rows before ∙ ap (λ (k : ℕ). 5 * k) (length-in (i - 1) d₀))
 
-    pub in_list : at + 5 ≤ length d
-    unfolding row_words
-    in_list =
-        let m = length-append (rows_words before) (row_words row ++ l.rest) in
-        let e : length d ≡ length (rows_words before ++ (row_words row ++ l.rest)) = ap length stands in
-        let g = at_is in omega arith
-
     pub start_is : start_at d at ≡ row.start
     start_is = ap (λ (x : List ℕ). start_at x at) stands ∙ start-in (rows_words before) l.rest row at at_is
 
@@ -85,9 +86,8 @@ module _ (f : Row → Row) (d₀ : List ℕ) (count : ℕ) where
 
     pub walk-on : (d' : List ℕ) (start len : ℕ) → d' ≡ with_span d at start len → f row ≡ moved row start len → length d' ≡ length d → Left d' (i - 1)
     unfolding rows_words
-    walk-on d' start len w e n = record {
-      rest = row_words (moved row start len) ++ l.rest;
-      here = w ∙ ap (λ (x : List ℕ). with_span x at start len) stands ∙ span-put (rows_words before) l.rest row at at_is start len;
-      whole = l.whole ∙ ap (λ (rs : List Row). rows_words (map f rs) ++ l.rest) one_more ∙ append_assoc (rows_words (map f before)) (row_words (f row)) l.rest ∙ ap (λ (r : Row). rows_words (map f before) ++ (row_words r ++ l.rest)) e;
-      room = n ∙ l.room;
-    }
+    walk-on d' start len w e n =
+        left_of d' (row_words (moved row start len) ++ l.rest) (i - 1)
+        (w ∙ ap (λ (x : List ℕ). with_span x at start len) stands ∙ span-put (rows_words before) l.rest row at at_is start len)
+        (l.whole ∙ ap (λ (rs : List Row). rows_words (map f rs) ++ l.rest) one_more ∙ append_assoc (rows_words (map f before)) (row_words (f row)) l.rest ∙ ap (λ (r : Row). rows_words (map f before) ++ (row_words r ++ l.rest)) e)
+        (n ∙ l.room)

@@ -1,6 +1,5 @@
 -- The lent list of words: the rows that it holds, the last of them first, and zero after them; and the rows' order in the text.
-use Rattle.std.specs.Prelude.{if◌then◌else◌, ◌≡◌, Bool, List, [], ◌∷◌, ◌++◌, ℕ, zero, suc, ◌+◌, ◌-◌, ◌*◌, ◌/◌, ◌%◌, ◌^◌, ◌≤◌, eqb, length, get_or, set, replicate}
-use Rattle.std.proofs.Math.Option.{Option, none, some}
+use Rattle.std.specs.Prelude.{if◌then◌else◌, ◌≡◌, Bool, List, [], ◌∷◌, ◌++◌, ℕ, zero, suc, ◌+◌, ◌-◌, ◌*◌, ◌/◌, ◌%◌, ◌^◌, ◌≤◌, eqb, length, get_or, set, replicate, Option, None, Some}
 use Rattle.rules.specs.Rows.{Row, rows_words}
 
 -- ---- one row, whose words stand from `at` on
@@ -17,7 +16,7 @@ with_span d at start len = set (set (set d (at + 2) (start % 2 ^ 32)) (at + 3) (
 
 -- an entry's word: the greatest is none
 unfoldable pub entry_of : ℕ → Option ℕ
-entry_of w = if eqb w 4294967295 then none else some w
+entry_of w = if eqb w 4294967295 then None else Some w
 
 unfoldable pub row_of : ℕ → ℕ → ℕ → ℕ → Row
 row_of token entry start len = record { token = token; entry = entry_of entry; start = start; len = len }

@@ -17,22 +17,6 @@ pub struct Span {
 
 // ---- numbers
 
-fn least(a: usize, b: usize) -> usize
-    ensures { result ≡ min a b }
-{
-    if a < b { a } else { b }
-}
-
-// a - b, or nought.
-fn less(a: usize, b: usize) -> usize
-    ensures { result ≡ a - b }
-{
-    if a < b {
-        return 0;
-    }
-    a - b
-}
-
 fn low_word(n: usize) -> u32
     ensures { result ≡ n % 2 ^ 32 }
 {
@@ -45,41 +29,27 @@ fn high_word(n: usize) -> u32
     (n / 4294967296) as u32
 }
 
-// The sum is not built: it may pass 64 bits.
-fn ends_by(s: Span, low: usize) -> bool
-    ensures { result ≡ leb (s.start + s.len) low }
-{
-    if low < s.start {
-        return false;
-    }
-    s.len <= low - s.start
-}
-
 // Where a span ends, or `low` where it goes further.
 fn end_by(s: Span, low: usize) -> usize
     ensures { result ≡ min low (s.start + s.len) }
 {
-    if ends_by(s, low) {
-        return s.start + s.len;
-    }
-    low
+    s.start.saturating_add(s.len).min(low)
 }
 
 // ---- the words of one row, which stand from `at` on
 
+#[tactic(auto, unfolding(crate::specs::Listing::start_at, crate::specs::Listing::len_at))]
 fn span_at(rows: &[u32], at: usize) -> Span
     requires { at + 5 ≤ length rows.now }
     ensures { (result.start ≡ start_at rows.now at) × (result.len ≡ len_at rows.now at) × (result.len < 2 ^ 32) }
 {
-    let low = to_usize(rows[at + 2]);
-    let high = to_usize(rows[at + 3]);
-    let len = to_usize(rows[at + 4]);
     Span {
-        start: low + high * 4294967296,
-        len,
+        start: to_usize(rows[at + 2]) + to_usize(rows[at + 3]) * 4294967296,
+        len: to_usize(rows[at + 4]),
     }
 }
 
+#[tactic(auto, unfolding(crate::specs::Listing::with_span))]
 fn put_span(rows: &mut [u32], at: usize, start: usize, len: u32)
     requires { at + 5 ≤ length rows.old }
     ensures { rows.new ≡ with_span rows.old at start len }
@@ -94,21 +64,17 @@ fn put_span(rows: &mut [u32], at: usize, start: usize, len: u32)
 pub fn clear(rows: &mut [u32])
     ensures { rows.new ≡ replicate (length rows.old) 0 }
 {
-    let mut i = 0;
-    while i < rows.len() {
-        rows[i] = 0;
-        i += 1;
-    }
+    rows.fill(0);
 }
 
 // From the last row back to the first that starts at or below: those before it end where it starts.
+#[tactic(auto, using(crate::proofs::RowLaws::clip_begins))]
 pub fn clip(rows: &mut [u32], count: usize, low: usize)
     requires { Listed rows.old count }
     ensures { rows.new ≡ listing (length rows.old) (map (clip_to low) (rows_in count rows.old)) }
 {
-    let mut i = count;
-    while 0 < i {
-        let at = 5 * (i - 1);
+    for i in (0..count).rev() {
+        let at = 5 * i;
         let s = span_at(rows, at);
         if s.start <= low {
             let left = low - s.start;
@@ -118,10 +84,10 @@ pub fn clip(rows: &mut [u32], count: usize, low: usize)
             return;
         }
         put_span(rows, at, low, 0);
-        i -= 1;
     }
 }
 
+#[tactic(auto, using(crate::proofs::RowLaws::row_added))]
 pub fn add(rows: &mut [u32], count: usize, token: u32, entry: u32, start: usize, len: u32)
     requires words { Words rows.old count }
     requires count_in_bounds { 5 * count + 5 ≤ length rows.old }
@@ -134,6 +100,7 @@ pub fn add(rows: &mut [u32], count: usize, token: u32, entry: u32, start: usize,
 }
 
 // A token was taken: how many rows there are now.
+#[tactic(auto, using(crate::proofs::Back::clip_words, crate::proofs::Back::clip_rows), unfolding(rules::specs::Base::when, crate::specs::Listing::count_after))]
 pub fn after(
     rows: &mut [u32],
     count: usize,
@@ -160,8 +127,8 @@ pub fn after(
 fn trimmed(s: Span, end: usize, lead: usize) -> Span
     ensures { (result.start ≡ min end s.start - lead) × (result.len ≡ min end (s.start + s.len) - lead - (min end s.start - lead)) × (result.len ≤ s.len) }
 {
-    let start = less(least(end, s.start), lead);
-    let stop = less(end_by(s, end), lead);
+    let start = s.start.min(end).saturating_sub(lead);
+    let stop = end_by(s, end).saturating_sub(lead);
     Span {
         start,
         len: stop - start,
@@ -169,17 +136,16 @@ fn trimmed(s: Span, end: usize, lead: usize) -> Span
 }
 
 // Each row anew, from the last one back.
+#[tactic(auto, using(crate::proofs::RowLaws::trim_begins, crate::proofs::RowLaws::trim_on))]
 fn trim_each(rows: &mut [u32], count: usize, end: usize, lead: usize)
     requires { Words rows.old count }
     ensures { rows.new ≡ listing (length rows.old) (map (λ q. q ▹ clip_to end ▹ shift lead) (rows_in count rows.old)) }
 {
-    let mut i = count;
-    while 0 < i {
-        let at = 5 * (i - 1);
+    for i in (0..count).rev() {
+        let at = 5 * i;
         let s = span_at(rows, at);
         let t = trimmed(s, end, lead);
         put_span(rows, at, t.start, t.len as u32);
-        i -= 1;
     }
 }
 

@@ -1,7 +1,7 @@
 -- What each rule adds to the text, white bytes aside, and what it leaves of the bytes before. A refusal adds nothing that is read, and nothing follows it. Assumes nothing.
 use mathlib.Core.Path.{◌≡◌, refl, sym, ◌∙◌}
 use mathlib.Core.Bool.{Bool, true, false}
-use mathlib.Core.Option.{Option, none, some}
+use Rattle.std.specs.Prelude.{Option, None, Some, if◌then◌else◌}
 use mathlib.Core.List.{List, [], ◌∷◌, ◌++◌, append_assoc, append-nil}
 use Prim.Native.Nat.{ℕ, suc, ◌+◌, ◌≤◌}
 use native.Mathlib.Omega.{arith}
@@ -10,7 +10,6 @@ use lib.ListN.{length, take, drop, take-append-drop}
 use Rattle.rules.specs.declared.SpanInfo.{SpanInfo}
 use Rattle.rules.specs.declared.BlockInfo.{BlockInfo}
 use Rattle.rules.specs.Base.{choose, when, full}
-use Rattle.std.specs.Prelude.{if◌then◌else◌}
 use Rattle.rules.specs.Tokens.{Token, Here}
 use Rattle.rules.specs.Sheet.{Env}
 use Rattle.rules.specs.declared.Inline.{Inline}
@@ -261,8 +260,8 @@ newline_after e h sp = chosen _ _ _ (top_lines e) (blanked e) then word e h.toke
 
 indents_inlined : (o : Option SpanInfo) {s : State} → Adds s (indent_inlined o s) []
 unfolding indent_inlined
-indents_inlined none = same_text refl refl
-indents_inlined (some sp) = maybe _ _ (increases sp)
+indents_inlined None = same_text refl refl
+indents_inlined (Some sp) = maybe _ _ (increases sp)
 
 pub newline : (e : Env) (h : Here) {s : State} → Adds s (format_newline_reserved_word e h s) (strip (format_reserved_word e h.token.value))
 unfolding format_newline_reserved_word

@@ -1,14 +1,11 @@
 -- Of every span the four rules get the same from what is kept as from the whole. Assumes nothing.
 use mathlib.Core.Path.{◌≡◌, refl}
 use mathlib.Core.Bool.{Bool, true, false, ◌&&◌}
-use mathlib.Core.Option.{some}
+use Rattle.std.specs.Prelude.{Some, if◌then◌else◌, None, Option, ℕ}
 use Prim.Native.Nat.{ℕ}
 use lib.Dec.{eqb, leb}
-use Rattle.rules.specs.declared.Limit.{Limit}
-use Rattle.rules.specs.declared.Limit.TheVariants as limit
 use Rattle.rules.specs.declared.SpanInfo.{SpanInfo}
 use Rattle.rules.specs.Base.{when}
-use Rattle.std.specs.Prelude.{if◌then◌else◌}
 use Rattle.rules.specs.Indentation.{is_single, asked, increase_top_level as increase_top}
 use Rattle.rules.specs.State.{on_indentation, increase_top_level}
 use Rattle.rules.specs.Formatter.{newline_before, indent_inlined, folds_in, span_within}
@@ -24,9 +21,9 @@ asked-same sp =
       fits = λ most. refl;
     }
   where
-    by-limit : (l : Limit) (n : ℕ) → newline_before l (some (asked sp)) n ≡ newline_before l (some sp) n
-    by-limit limit.None n = refl
-    by-limit (limit.Some most) n = refl
+    by-limit : (l : Option ℕ) (n : ℕ) → newline_before l (Some (asked sp)) n ≡ newline_before l (Some sp) n
+    by-limit None n = refl
+    by-limit (Some most) n = refl
 
     fold : (few after one : Bool) → (true && (after && eqb (if few && one then 1 else 0) 1)) ≡ (few && (after && one))
     fold true true true = refl

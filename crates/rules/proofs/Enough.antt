@@ -1,4 +1,7 @@
 -- Wish 9: the working text is never longer than the sum, so a buffer that long never meets refusal 9. For any buffer and any value of word 7. Assumes nothing.
+use Rattle.rules.specs.declared.Offence.TheVariants as offence
+use Rattle.rules.specs.declared.Counts.{Counts}
+use Rattle.rules.specs.declared.Offence.{Offence}
 use mathlib.Core.Path.{◌≡◌, refl, ap}
 use mathlib.Core.Bool.{Bool, true, false}
 use mathlib.Core.List.{List, [], ◌∷◌}
@@ -7,9 +10,7 @@ use native.Mathlib.Omega.{arith}
 use lib.ListN.{length, take, get_or}
 use Rattle.rules.specs.declared.Turn.{Turn}
 use Rattle.rules.specs.declared.FormatOptions.{FormatOptions}
-use Rattle.rules.specs.declared.Checked.{Checked}
-use Rattle.rules.specs.declared.Checked.TheVariants as found
-use Rattle.std.specs.Prelude.{if◌then◌else◌}
+use Rattle.std.specs.Prelude.{if◌then◌else◌, Err, Ok, Result}
 use Rattle.rules.specs.Tokens.{Token, Here}
 use Rattle.rules.specs.Checks.{checked}
 use Rattle.rules.specs.Sheet.{Env, QueryParams, options_of, params_of, env_of, tokens_of}
@@ -162,17 +163,17 @@ unfolding FitsIn
 without_nine e n (laid b l w) h r = tt
 without_nine e n (refusal k p) h r = h r
 
-checked-no-nine : (s : List ℕ) (n : ℕ) (c : Checked) → (room_as s c).length ≤ n → NoNine (answer_as s n c)
+checked-no-nine : (s : List ℕ) (n : ℕ) (c : Result Counts Offence) → (room_as s c).length ≤ n → NoNine (answer_as s n c)
 unfolding room_as answer_as env_of outcome_of
-checked-no-nine s n (found.Sound c) l = go (is_withdrawn s) l
+checked-no-nine s n (Ok c) l = go (is_withdrawn s) l
   where
     go : (b : Bool) → (if b then outcome_of (unwritten 14 28) else record { refusal = 0; place = 0; length = room (options_of s) (params_of s c) (tokens_of s c) }).length ≤ n → NoNine (if b then refusal 14 28 else format (env_of s c n) (tokens_of s c))
     go true h = λ z. omega arith
     go false h = without_nine (env_of s c n) _ _ (enough (env_of s c n) (tokens_of s c)) h
-checked-no-nine s n found.Size l = λ h. omega arith
-checked-no-nine s n (found.Word p) l = λ h. omega arith
-checked-no-nine s n (found.Place p) l = λ h. omega arith
-checked-no-nine s n (found.Byte p) l = λ h. omega arith
+checked-no-nine s n (Err offence.Size) l = λ h. omega arith
+checked-no-nine s n (Err (offence.Word p)) l = λ h. omega arith
+checked-no-nine s n (Err (offence.Place p)) l = λ h. omega arith
+checked-no-nine s n (Err (offence.Byte p)) l = λ h. omega arith
 
 pub sheet-never-nine : (s : List ℕ) (n : ℕ) → (room_for s).length ≤ n → (p : ℕ) → answer s n ≡ refusal 9 p → ⊥
 unfolding room_for answer

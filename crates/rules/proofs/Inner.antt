@@ -1,7 +1,7 @@
 -- What each rule does to the open inline blocks and to the blocks on the indent stack: brackets move both, a `;` clears the stack, and no other rule touches either. Assumes nothing.
 use mathlib.Core.Path.{◌≡◌, refl, ap, ◌∙◌}
 use mathlib.Core.Bool.{Bool, true, false, not, ◌&&◌}
-use mathlib.Core.Option.{Option, none, some}
+use Rattle.std.specs.Prelude.{Option, None, Some, if◌then◌else◌}
 use mathlib.Core.List.{List, [], ◌∷◌, tail}
 use Prim.Native.Nat.{ℕ, suc, ◌-◌, ◌≤◌}
 use native.Mathlib.Omega.{arith}
@@ -16,7 +16,6 @@ use Rattle.rules.specs.declared.SpanInfo.{SpanInfo}
 use Rattle.rules.specs.declared.BlockInfo.{BlockInfo}
 use Rattle.rules.specs.Bytes.{bytes}
 use Rattle.rules.specs.Base.{same, choose, when, full}
-use Rattle.std.specs.Prelude.{if◌then◌else◌}
 use Rattle.rules.specs.Tokens.{Token, Here}
 use Rattle.rules.specs.Sheet.{Env}
 use Rattle.rules.specs.Text.{Text, fits, refused, refuse}
@@ -213,8 +212,8 @@ top_lines e = lowers then lines e
 
 indents_inlined : (o : Option SpanInfo) {s : State} → Same s (indent_inlined o s)
 unfolding indent_inlined
-indents_inlined none = stays
-indents_inlined (some sp) = maybe _ _ (increases sp)
+indents_inlined None = stays
+indents_inlined (Some sp) = maybe _ _ (increases sp)
 
 top_level : (e : Env) (h : Here) (sp : SpanInfo) {s : State} → Same s (format_top_level_reserved_word e h sp s)
 unfolding format_top_level_reserved_word

@@ -1,7 +1,7 @@
 -- Demand 3: a text that the rules lay out is, without its white bytes, what is due of the tokens. Assumes nothing.
 use mathlib.Core.Path.{◌≡◌, refl, sym, ap, subst, ◌∙◌}
 use mathlib.Core.Bool.{Bool, true, false}
-use mathlib.Core.Option.{Option, none, some}
+use Rattle.std.specs.Prelude.{Option, None, Some, if◌then◌else◌}
 use mathlib.Core.List.{List, [], ◌∷◌, ◌++◌, append_assoc, append-nil}
 use Prim.Native.Nat.{ℕ, suc, ◌≤◌}
 use native.Mathlib.Omega.{arith}
@@ -9,9 +9,8 @@ use lib.ListN.{length}
 use Rattle.rules.specs.declared.TokenKind.{TokenKind}
 use Rattle.rules.specs.declared.TokenKind.TheVariants as kind
 use Rattle.rules.specs.Base.{when}
-use Rattle.std.specs.Prelude.{if◌then◌else◌}
 use Rattle.rules.specs.Tokens.{Key, absent, named, zero_indexed, one_indexed, Token, Here}
-use Rattle.rules.specs.Sheet.{Env, QueryParams, None, Indexed, Named}
+use Rattle.rules.specs.Sheet.{Env, QueryParams, NoParams, Indexed, Named}
 use Rattle.rules.specs.Text.{Text, fits, refused, mark}
 use Rattle.rules.specs.Switch.{Switch, turn_by, turn_of, switch_after, switched_on}
 use Rattle.rules.specs.Params.{get, advances, offends}
@@ -28,14 +27,14 @@ use Rattle.rules.proofs.Adds
 
 -- the counter, under the sheet's parameters, once those before were laid out
 unfoldable pub counter : QueryParams → List Piece → ℕ
-counter None before = 0
+counter NoParams before = 0
 counter (Named ps) before = 0
 counter (Indexed vs) before = count_next before
 
 -- the entry goes by the count alone
 entry-count : (ps : QueryParams) (k : Key) (before : List Piece) → entry_of ps k (counter ps before) ≡ entry_of ps k (count_next before)
 unfolding counter
-entry-count None k before = refl
+entry-count NoParams k before = refl
 entry-count (Named ps) absent before = refl
 entry-count (Named ps) (named n) before = refl
 entry-count (Named ps) (zero_indexed n) before = refl
@@ -44,13 +43,13 @@ entry-count (Indexed vs) k before = refl
 
 own-uncounted : (ps : QueryParams) (v : List ℕ) (before : List Piece) → counter ps (own v ∷ before) ≡ counter ps before
 unfolding counter count_next
-own-uncounted None v before = refl
+own-uncounted NoParams v before = refl
 own-uncounted (Named ps) v before = refl
 own-uncounted (Indexed vs) v before = refl
 
 cased-uncounted : (ps : QueryParams) (v : List ℕ) (before : List Piece) → counter ps (cased v ∷ before) ≡ counter ps before
 unfolding counter count_next
-cased-uncounted None v before = refl
+cased-uncounted NoParams v before = refl
 cased-uncounted (Named ps) v before = refl
 cased-uncounted (Indexed vs) v before = refl
 
@@ -64,7 +63,7 @@ advances-is vs (one_indexed n) = refl
 
 filled-counted : (ps : QueryParams) (k : Key) (v : List ℕ) (before : List Piece) → (if advances ps k then suc (counter ps before) else counter ps before) ≡ counter ps (filled k v ∷ before)
 unfolding counter count_next advances
-filled-counted None k v before = refl
+filled-counted NoParams k v before = refl
 filled-counted (Named ps) k v before = refl
 filled-counted (Indexed vs) k v before = rw (advances-is vs k)
 
@@ -150,9 +149,9 @@ module _ (e : Env) (h : Here) (before : List Piece) (s : State) (sync : s.index 
   -- by what it switches
   by-switch : (on : Bool) (o : Option Bool) → LaysOut e before s (taken_as (turn_by on o) e h s) (kept_by o on h.token)
   unfolding turn_by taken_as format_no_change
-  by-switch on (some off) = lays-nothing
-  by-switch true none = by_kind h.token.kind
-  by-switch false none = lays-own _ (Adds.pushes e h.token.value)
+  by-switch on (Some off) = lays-nothing
+  by-switch true None = by_kind h.token.kind
+  by-switch false None = lays-own _ (Adds.pushes e h.token.value)
 
 -- ---- the switch
 
@@ -175,9 +174,9 @@ kept_step on false t ts = rw (switch-is t.kind t.value) (go (switches (role_of t
   where
     go : (o : Option Bool) (on : Bool)
         → kept_by o on t ++ kept_tokens (on_after o on) (is_switch o) ts ≡ kept_by o on t ++ kept_after (switch_after (turn_by on o) (record { enabled = on; drop_next = false })) ts
-    go (some off) on = refl
-    go none true = refl
-    go none false = refl
+    go (Some off) on = refl
+    go None true = refl
+    go None false = refl
 
 pub lays_step : (e : Env) (h : Here) (before : List Piece) (s : State) → s.index ≡ counter e.params before → (on drop : Bool)
     → LaysOut e before s (taken_as (turn_of (record { enabled = on; drop_next = drop }) h.token.kind h.token.value) e h s) (kept_here on drop h.token)
@@ -217,7 +216,7 @@ keeps-from e before (t ∷ ts) past w s k m a h sync =
 
 pub counter-none : (ps : QueryParams) → 0 ≡ counter ps []
 unfolding counter count_next
-counter-none None = refl
+counter-none NoParams = refl
 counter-none (Named ps) = refl
 counter-none (Indexed vs) = refl
 

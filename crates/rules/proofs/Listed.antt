@@ -1,4 +1,6 @@
 -- Wish 2 for the call with a list: in terms of its own answer, buffer and list. Assumes nothing.
+use Rattle.rules.specs.declared.Offence.TheVariants as offence
+use Rattle.rules.specs.declared.Offence.{Offence}
 use mathlib.Core.Path.{◌≡◌, refl, sym, ap, ◌∙◌}
 use mathlib.Core.Logic.{◌↔◌}
 use mathlib.Core.Bool.{Bool, true, false}
@@ -9,11 +11,9 @@ use lib.Dec.{ltb}
 use borrow.Author.Tests.{ltb-true, ltb-false, lt-ltb, le-ltb}
 use lib.ListN.{length, take, replicate, length-append, length-replicate}
 use lib.Seq.{take-append_seam}
-use Rattle.rules.specs.declared.Checked.{Checked}
-use Rattle.rules.specs.declared.Checked.TheVariants as found
 use Rattle.rules.specs.declared.Counts.{Counts}
 use Rattle.rules.specs.declared.Report.{Report}
-use Rattle.std.specs.Prelude.{if◌then◌else◌}
+use Rattle.std.specs.Prelude.{if◌then◌else◌, Err, Ok, Result}
 use Rattle.rules.specs.Checks.{checked}
 use Rattle.rules.specs.Sheet.{params_of, env_of, tokens_of}
 use Rattle.rules.specs.Answer.{Answer, laid, refusal, format, is_withdrawn, answer_as, answer, report_of, buffer_of, reported, buffer_after}
@@ -30,17 +30,17 @@ position n = omega arith
 
 -- ---- refusal 10
 
-short-is : (s : List ℕ) (k : ℕ) (c : Checked) → is_short s k c ≡ ltb k (5 * length (shown_in s c))
+short-is : (s : List ℕ) (k : ℕ) (c : Result Counts Offence) → is_short s k c ≡ ltb k (5 * length (shown_in s c))
 unfolding is_short shown_in to_lay_out
-short-is s k (found.Sound c) = go (is_withdrawn s)
+short-is s k (Ok c) = go (is_withdrawn s)
   where
     go : (b : Bool) → ltb k (5 * (if b then 0 else placeholders (tokens_of s c))) ≡ ltb k (5 * length (if b then [] else shown (params_of s c) (tokens_of s c)))
     go true = refl
     go false = rw (shown-count (params_of s c) (tokens_of s c))
-short-is s k found.Size = sym (le-ltb k 0 (omega arith))
-short-is s k (found.Word p) = sym (le-ltb k 0 (omega arith))
-short-is s k (found.Place p) = sym (le-ltb k 0 (omega arith))
-short-is s k (found.Byte p) = sym (le-ltb k 0 (omega arith))
+short-is s k (Err offence.Size) = sym (le-ltb k 0 (omega arith))
+short-is s k (Err (offence.Word p)) = sym (le-ltb k 0 (omega arith))
+short-is s k (Err (offence.Place p)) = sym (le-ltb k 0 (omega arith))
+short-is s k (Err (offence.Byte p)) = sym (le-ltb k 0 (omega arith))
 
 -- a layout never refuses with 10
 not-ten : (a : Answer) (v : List ℕ) → StripsTo a v → (report_of a).refusal ≡ 10 → ⊥
@@ -84,7 +84,7 @@ module _ (s : List ℕ) (room k : ℕ) where
   same-buffer h = ap (buffer_of room) (first-call h)
 
   -- demand 3
-  listed-strips : (c : Checked) (f : Bool) → StripsTo (answer_as s room c) (due_in s c) → (report_of (if f then refusal 10 0 else answer_as s room c)).refusal ≡ 0
+  listed-strips : (c : Result Counts Offence) (f : Bool) → StripsTo (answer_as s room c) (due_in s c) → (report_of (if f then refusal 10 0 else answer_as s room c)).refusal ≡ 0
       → let a = if f then refusal 10 0 else answer_as s room c in strip (take (report_of a).length (buffer_of room a)) ≡ due_in s c
   unfolding report_of
   listed-strips c true k e = absurd (omega arith)
@@ -110,19 +110,19 @@ for_length k rs (refusal n p) h = length-replicate k 0
 abbrev rows_in : List ℕ → ℕ → Counts → List Row
 rows_in s room c = rows (env_of s c room) (tokens_of s c)
 
-enough : (s : List ℕ) (room k : ℕ) (c : Counts) → is_withdrawn s ≡ false → is_short s k (found.Sound c) ≡ false → 5 * length (rows_in s room c) ≤ k
+enough : (s : List ℕ) (room k : ℕ) (c : Counts) → is_withdrawn s ≡ false → is_short s k (Ok c) ≡ false → 5 * length (rows_in s room c) ≤ k
 unfolding is_short to_lay_out
 enough s room k c w h = rw (rows-count (env_of s c room) (tokens_of s c)) (ltb-false k (5 * placeholders (tokens_of s c)) (rw w at h))
 
-as_length : (s : List ℕ) (room k : ℕ) (c : Checked) → length (list_as s room k c) ≡ k
+as_length : (s : List ℕ) (room k : ℕ) (c : Result Counts Offence) → length (list_as s room k c) ≡ k
 unfolding list_as listed_as list_for answer_as
-as_length s room k found.Size = length-replicate k 0
-as_length s room k (found.Word p) = length-replicate k 0
-as_length s room k (found.Place p) = length-replicate k 0
-as_length s room k (found.Byte p) = length-replicate k 0
-as_length s room k (found.Sound c) = go (is_short s k (found.Sound c)) (is_withdrawn s) refl refl
+as_length s room k (Err offence.Size) = length-replicate k 0
+as_length s room k (Err (offence.Word p)) = length-replicate k 0
+as_length s room k (Err (offence.Place p)) = length-replicate k 0
+as_length s room k (Err (offence.Byte p)) = length-replicate k 0
+as_length s room k (Ok c) = go (is_short s k (Ok c)) (is_withdrawn s) refl refl
   where
-    go : (f b : Bool) → is_short s k (found.Sound c) ≡ f → is_withdrawn s ≡ b → length (list_for k (rows_in s room c) (if f then refusal 10 0 else if b then refusal 14 28 else format (env_of s c room) (tokens_of s c))) ≡ k
+    go : (f b : Bool) → is_short s k (Ok c) ≡ f → is_withdrawn s ≡ b → length (list_for k (rows_in s room c) (if f then refusal 10 0 else if b then refusal 14 28 else format (env_of s c room) (tokens_of s c))) ≡ k
     go true b h w = length-replicate k 0
     go false true h w = length-replicate k 0
     go false false h w = for_length k (rows_in s room c) (format (env_of s c room) (tokens_of s c)) (enough s room k c w h)
@@ -136,13 +136,13 @@ unfolding list_for report_of
 for_refused k rs (laid b l w) h = absurd (h refl)
 for_refused k rs (refusal n p) h = refl
 
-as_refused : (s : List ℕ) (room k : ℕ) (c : Checked) → ((report_of (listed_as s room k c)).refusal ≡ 0 → ⊥) → list_as s room k c ≡ replicate k 0
+as_refused : (s : List ℕ) (room k : ℕ) (c : Result Counts Offence) → ((report_of (listed_as s room k c)).refusal ≡ 0 → ⊥) → list_as s room k c ≡ replicate k 0
 unfolding list_as
-as_refused s room k (found.Sound c) h = for_refused k (rows_in s room c) (listed_as s room k (found.Sound c)) h
-as_refused s room k found.Size h = refl
-as_refused s room k (found.Word p) h = refl
-as_refused s room k (found.Place p) h = refl
-as_refused s room k (found.Byte p) h = refl
+as_refused s room k (Ok c) h = for_refused k (rows_in s room c) (listed_as s room k (Ok c)) h
+as_refused s room k (Err offence.Size) h = refl
+as_refused s room k (Err (offence.Word p)) h = refl
+as_refused s room k (Err (offence.Place p)) h = refl
+as_refused s room k (Err (offence.Byte p)) h = refl
 
 -- on a refusal every word is zero
 pub list-refused : (s : List ℕ) (room k : ℕ) → ((listed_report s room k).refusal ≡ 0 → ⊥) → list_after s room k ≡ replicate k 0
@@ -166,20 +166,20 @@ lists to room k xs rs (laid b l w) v n p e h z =
     }
 lists to room k xs rs (refusal n q) v p o e h z = absurd (let m = p.0 in omega arith)
 
-as_lists : (s : List ℕ) (room k : ℕ) (c : Checked) → let a = listed_as s room k c in (report_of a).refusal ≡ 0 → Lists (due_to_in s c) (shown_in s c) (take (report_of a).length (buffer_of room a)) (list_as s room k c)
+as_lists : (s : List ℕ) (room k : ℕ) (c : Result Counts Offence) → let a = listed_as s room k c in (report_of a).refusal ≡ 0 → Lists (due_to_in s c) (shown_in s c) (take (report_of a).length (buffer_of room a)) (list_as s room k c)
 unfolding list_as listed_as answer_as shown_in due_to_in due_in report_of is_short env_of
-as_lists s room k found.Size z = absurd (omega arith)
-as_lists s room k (found.Word p) z = absurd (omega arith)
-as_lists s room k (found.Place p) z = absurd (omega arith)
-as_lists s room k (found.Byte p) z = absurd (omega arith)
-as_lists s room k (found.Sound c) z = go (is_short s k (found.Sound c)) (is_withdrawn s) refl refl z
+as_lists s room k (Err offence.Size) z = absurd (omega arith)
+as_lists s room k (Err (offence.Word p)) z = absurd (omega arith)
+as_lists s room k (Err (offence.Place p)) z = absurd (omega arith)
+as_lists s room k (Err (offence.Byte p)) z = absurd (omega arith)
+as_lists s room k (Ok c) z = go (is_short s k (Ok c)) (is_withdrawn s) refl refl z
   where
-    go : (f b : Bool) → is_short s k (found.Sound c) ≡ f → is_withdrawn s ≡ b → let a = if f then refusal 10 0 else if b then refusal 14 28 else format (env_of s c room) (tokens_of s c) in (report_of a).refusal ≡ 0
-        → Lists (due_to_in s (found.Sound c)) (if b then [] else shown (params_of s c) (tokens_of s c)) (take (report_of a).length (buffer_of room a)) (list_for k (rows_in s room c) a)
+    go : (f b : Bool) → is_short s k (Ok c) ≡ f → is_withdrawn s ≡ b → let a = if f then refusal 10 0 else if b then refusal 14 28 else format (env_of s c room) (tokens_of s c) in (report_of a).refusal ≡ 0
+        → Lists (due_to_in s (Ok c)) (if b then [] else shown (params_of s c) (tokens_of s c)) (take (report_of a).length (buffer_of room a)) (list_for k (rows_in s room c) a)
     go true b h w z = absurd (omega arith)
     go false true h w z = absurd (omega arith)
     go false false h w z =
-        lists (due_to_in s (found.Sound c)) room k (shown (params_of s c) (tokens_of s c)) (rows_in s room c) (format (env_of s c room) (tokens_of s c)) (due_in s (found.Sound c)) (keeps (env_of s c room) (tokens_of s c)) (rows-placed (env_of s c room) (tokens_of s c))
+        lists (due_to_in s (Ok c)) room k (shown (params_of s c) (tokens_of s c)) (rows_in s room c) (format (env_of s c room) (tokens_of s c)) (due_in s (Ok c)) (keeps (env_of s c room) (tokens_of s c)) (rows-placed (env_of s c room) (tokens_of s c))
         (shown-count (params_of s c) (tokens_of s c) ∙ sym (rows-count (env_of s c room) (tokens_of s c))) (enough s room k c w h) z
 
 pub list-pointed : (s : List ℕ) (room k : ℕ) → Pointed s (listed_report s room k) (listed_buffer s room k) (list_after s room k)

@@ -1,7 +1,7 @@
 -- Wish 11: every token keeps the invariant, so no inline block begins where 128 are open, and refusal 7 is never met. Assumes nothing.
 use mathlib.Core.Path.{◌≡◌, refl, sym, ap, ◌∙◌}
 use mathlib.Core.Bool.{Bool, true, false, not, ◌&&◌, ◌||◌}
-use mathlib.Core.Option.{Option, none, some}
+use Rattle.std.specs.Prelude.{Option, None, Some, if◌then◌else◌}
 use mathlib.Core.List.{List, [], ◌∷◌}
 use Prim.Native.Nat.{ℕ, suc, ◌+◌, ◌-◌, ◌≤◌}
 use native.Mathlib.Omega.{arith}
@@ -18,7 +18,6 @@ use Rattle.rules.specs.declared.BlockInfo.{BlockInfo}
 use Rattle.rules.specs.declared.FormatOptions.{FormatOptions}
 use Rattle.rules.specs.Bytes.{bytes}
 use Rattle.rules.specs.Base.{same, full}
-use Rattle.std.specs.Prelude.{if◌then◌else◌}
 use Rattle.rules.specs.Tokens.{Token, Here, is}
 use Rattle.rules.specs.Sheet.{Env}
 use Rattle.rules.specs.Text.{Text, fits, refused, mark}
@@ -150,9 +149,9 @@ laid_on w k v h = go w.enabled w.drop_next (switch_in k v) h
   where
     go : (on drop : Bool) (o : Option Bool) → (if drop then turn.Dropped else turn_by on o) ≡ turn.LaidOut → record { enabled = on; drop_next = drop } ≡ switched_on
     go on true o h = never (ap unlaid h)
-    go on false (some off) h = never (ap unlaid h)
-    go true false none h = refl
-    go false false none h = never (ap unlaid h)
+    go on false (Some off) h = never (ap unlaid h)
+    go true false None h = refl
+    go false false None h = never (ap unlaid h)
 
 -- one less, one more
 less_one : (n : ℕ) → suc n - 1 ≡ n

@@ -1,7 +1,7 @@
 -- The rules' casing, lookup and switch are those that demand 3 says in its own words. Assumes nothing.
 use mathlib.Core.Path.{◌≡◌, refl, sym, ap, ◌∙◌}
 use mathlib.Core.Bool.{Bool, true, false, ◌&&◌}
-use mathlib.Core.Option.{Option, none, some}
+use Rattle.std.specs.Prelude.{Option, None, Some, if◌then◌else◌, unwrap_or}
 use mathlib.Core.List.{List, [], ◌∷◌, map}
 use Prim.Native.Nat.{ℕ, zero, suc, ◌+◌, ◌-◌, ◌≤◌, ◌<◌}
 use native.Mathlib.Omega.{arith}
@@ -9,17 +9,15 @@ use native.Mathlib.Numerals.{sub-one}
 use lib.Dec.{eqb, leb, ltb, eqb-suc-zero}
 use lib.ListN.{length}
 use borrow.Author.Tests.{leb-true, leb-false, ltb-true, ltb-false, eqb-true, eqb-false}
+use Rattle.rules.specs.declared.ZeroIndexed.{ZeroIndexed}
 use Rattle.rules.specs.declared.TokenKind.{TokenKind}
 use Rattle.rules.specs.declared.TokenKind.TheVariants as kind
 use Rattle.rules.specs.declared.Case.{Case}
 use Rattle.rules.specs.declared.Case.TheVariants as case
 use Rattle.rules.specs.declared.OneIndexed.{OneIndexed}
-use Rattle.rules.specs.declared.Index.{Index}
-use Rattle.rules.specs.declared.Index.TheVariants as index
-use Rattle.rules.specs.Base.{same, any_of, find, nth?, or_else}
-use Rattle.std.specs.Prelude.{if◌then◌else◌}
+use Rattle.rules.specs.Base.{same, any_of, find, nth?}
 use Rattle.rules.specs.Tokens.{Key, absent, named, zero_indexed, one_indexed, from_one}
-use Rattle.rules.specs.Sheet.{Env, Param, QueryParams, None, Indexed, Named}
+use Rattle.rules.specs.Sheet.{Env, Param, QueryParams, NoParams, Indexed, Named}
 use Rattle.rules.specs.Text.{to_upper, to_lower, byte_in_case, in_case}
 use Rattle.rules.specs.Switch as rules
 use Rattle.rules.specs.Params.{by_name, by_number, by_index, source, value_in, value_at, value_from, entry, get}
@@ -100,7 +98,7 @@ word-is e v = go (any_of (same v) e.keep)
 -- ---- a placeholder's entry
 
 -- past the end there is none
-nth_past : (vs : List (List ℕ)) (n : ℕ) → length vs ≤ n → nth? vs n ≡ none
+nth_past : (vs : List (List ℕ)) (n : ℕ) → length vs ≤ n → nth? vs n ≡ None
 nth_past [] n h = refl
 nth_past (v ∷ vs) zero h = absurd (omega arith)
 nth_past (v ∷ vs) (suc n) h = nth_past vs n (omega arith)
@@ -109,27 +107,27 @@ number_is : (vs : List (List ℕ)) (n : ℕ) → value_from (Indexed vs) (by_num
 unfolding by_number value_from value_at
 number_is vs n = go (ltb n (length vs)) refl
   where
-    go : (b : Bool) → ltb n (length vs) ≡ b → value_from (Indexed vs) (if b then some n else none) ≡ nth? vs n
+    go : (b : Bool) → ltb n (length vs) ≡ b → value_from (Indexed vs) (if b then Some n else None) ≡ nth? vs n
     go true e = refl
     go false e = sym (nth_past vs n (ltb-false n (length vs) e))
 
 -- counted from one more, an entry's number is one more
 abbrev one_on : Option ℕ → Option ℕ
-one_on none = none
-one_on (some n) = some (suc n)
+one_on None = None
+one_on (Some n) = Some (suc n)
 
 find_on : (q : Param → Bool) (n : ℕ) (ps : List Param) → find q (suc n) ps ≡ one_on (find q n ps)
 find_on q n [] = refl
 find_on q n (p ∷ ps) = go (q p) (find_on q (suc n) ps)
   where
-    go : (b : Bool) → find q (suc (suc n)) ps ≡ one_on (find q (suc n) ps) → (if b then some (suc n) else find q (suc (suc n)) ps) ≡ one_on (if b then some n else find q (suc n) ps)
+    go : (b : Bool) → find q (suc (suc n)) ps ≡ one_on (find q (suc n) ps) → (if b then Some (suc n) else find q (suc (suc n)) ps) ≡ one_on (if b then Some n else find q (suc n) ps)
     go true ih = refl
     go false ih = ih
 
 value_on : (p : Param) (ps : List Param) (o : Option ℕ) → value_from (Named (p ∷ ps)) (one_on o) ≡ value_from (Named ps) o
 unfolding value_from value_at
-value_on p ps none = refl
-value_on p ps (some n) = refl
+value_on p ps None = refl
+value_on p ps (Some n) = refl
 
 called_is : (n : List ℕ) (ps : List Param) → value_from (Named ps) (by_name ps n) ≡ called_by n ps
 unfolding by_name value_from value_at value_in
@@ -137,7 +135,7 @@ called_is n [] = refl
 called_is n (p ∷ ps) = go (same p.name n) (called_is n ps)
   where
     go : (b : Bool) → value_from (Named ps) (by_name ps n) ≡ called_by n ps
-        → value_from (Named (p ∷ ps)) (if b then some 0 else find (λ (q : Param). same q.name n) 1 ps) ≡ (if b then some p.value else called_by n ps)
+        → value_from (Named (p ∷ ps)) (if b then Some 0 else find (λ (q : Param). same q.name n) 1 ps) ≡ (if b then Some p.value else called_by n ps)
     go true ih = refl
     go false ih = rw (find_on (λ (q : Param). same q.name n) 0 ps) (value_on p ps (by_name ps n) ∙ ih)
 
@@ -151,7 +149,7 @@ numbered_is vs n = go n.0
 
 entry-is : (ps : QueryParams) (k : Key) (i : ℕ) → entry ps k i ≡ entry_of ps k i
 unfolding entry source by_index value_from
-entry-is None k i = refl
+entry-is NoParams k i = refl
 entry-is (Indexed vs) absent i = number_is vs i
 entry-is (Indexed vs) (named []) i = number_is vs i
 entry-is (Indexed vs) (named (c ∷ n)) i = refl
@@ -164,10 +162,10 @@ entry-is (Named ps) (one_indexed n) i = called_is [] ps
 
 -- an entry's number has a value
 abbrev pub Found : QueryParams → Option ℕ → Type 0
-Found ps none = Unit {0}
-Found ps (some n) = (v : List ℕ) × (value_at ps n ≡ some v)
+Found ps None = Unit {0}
+Found ps (Some n) = (v : List ℕ) × (value_at ps n ≡ Some v)
 
-nth-within : (vs : List (List ℕ)) (n : ℕ) → n < length vs → (v : List ℕ) × (nth? vs n ≡ some v)
+nth-within : (vs : List (List ℕ)) (n : ℕ) → n < length vs → (v : List ℕ) × (nth? vs n ≡ Some v)
 nth-within [] n h = absurd (omega arith)
 nth-within (v ∷ vs) zero h = (v, refl)
 nth-within (v ∷ vs) (suc n) h = nth-within vs n (omega arith)
@@ -176,45 +174,45 @@ found_number : (vs : List (List ℕ)) (n : ℕ) → Found (Indexed vs) (by_numbe
 unfolding by_number value_at
 found_number vs n = go (ltb n (length vs)) refl
   where
-    go : (b : Bool) → ltb n (length vs) ≡ b → Found (Indexed vs) (if b then some n else none)
+    go : (b : Bool) → ltb n (length vs) ≡ b → Found (Indexed vs) (if b then Some n else None)
     go true e = nth-within vs n (ltb-true n (length vs) e)
     go false e = tt
 
 found-on : (p : Param) (ps : List Param) (o : Option ℕ) → Found (Named ps) o → Found (Named (p ∷ ps)) (one_on o)
 unfolding value_at
-found-on p ps none f = tt
-found-on p ps (some n) f = f
+found-on p ps None f = tt
+found-on p ps (Some n) f = f
 
 found_name : (n : List ℕ) (ps : List Param) → Found (Named ps) (by_name ps n)
 unfolding by_name value_at value_in
 found_name n [] = tt
 found_name n (p ∷ ps) = go (same p.name n) (found_name n ps)
   where
-    go : (b : Bool) → Found (Named ps) (by_name ps n) → Found (Named (p ∷ ps)) (if b then some 0 else find (λ (q : Param). same q.name n) 1 ps)
+    go : (b : Bool) → Found (Named ps) (by_name ps n) → Found (Named (p ∷ ps)) (if b then Some 0 else find (λ (q : Param). same q.name n) 1 ps)
     go true ih = (p.value, refl)
     go false ih = rw (find_on (λ (q : Param). same q.name n) 0 ps) (found-on p ps (by_name ps n) ih)
 
-found-index : (vs : List (List ℕ)) (n : Index) → Found (Indexed vs) (by_index vs n)
+found-index : (vs : List (List ℕ)) (n : Option ZeroIndexed) → Found (Indexed vs) (by_index vs n)
 unfolding by_index
-found-index vs (index.At n) = found_number vs n.0
-found-index vs index.Refused = tt
+found-index vs (Some n) = found_number vs n.0
+found-index vs None = tt
 
 pub found-source : (ps : QueryParams) (k : Key) (i : ℕ) → Found ps (source ps k i)
 unfolding source
-found-source None k i = tt
+found-source NoParams k i = tt
 found-source (Indexed vs) absent i = found_number vs i
 found-source (Indexed vs) (named []) i = found_number vs i
 found-source (Indexed vs) (named (c ∷ n)) i = tt
-found-source (Indexed vs) (zero_indexed n) i = found-index vs (index.At n)
+found-source (Indexed vs) (zero_indexed n) i = found-index vs (Some n)
 found-source (Indexed vs) (one_indexed n) i = found-index vs (from_one n)
 found-source (Named ps) absent i = tt
 found-source (Named ps) (named n) i = found_name n ps
 found-source (Named ps) (zero_indexed n) i = found_name [] ps
 found-source (Named ps) (one_indexed n) i = found_name [] ps
 
-pub filled_is : (ps : QueryParams) (k : Key) (i : ℕ) (v : List ℕ) → get ps k i v ≡ or_else v (entry_of ps k i)
+pub filled_is : (ps : QueryParams) (k : Key) (i : ℕ) (v : List ℕ) → get ps k i v ≡ unwrap_or (entry_of ps k i) v
 unfolding get
-filled_is ps k i v = ap (or_else v) (entry-is ps k i)
+filled_is ps k i v = ap (λ o. unwrap_or o v) (entry-is ps k i)
 
 -- ---- the switch
 

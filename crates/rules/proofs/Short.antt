@@ -1,7 +1,7 @@
 -- No text is long: a sheet that passes the checks gives fewer than 2 ^ 60 bytes, so 64 bits hold its width. Assumes nothing.
 use mathlib.Core.Path.{◌≡◌, refl, ap}
 use mathlib.Core.Bool.{Bool, true, false}
-use mathlib.Core.Option.{Option, none, some}
+use Rattle.std.specs.Prelude.{Option, None, Some, if◌then◌else◌, unwrap_or}
 use mathlib.Core.List.{List, [], ◌∷◌}
 use Prim.Native.Nat.{ℕ, zero, suc, ◌+◌, ◌*◌, ◌^◌, ◌≤◌, ◌<◌}
 use native.Mathlib.Omega.{arith}
@@ -15,11 +15,10 @@ use Rattle.rules.specs.declared.Indent.TheVariants as indent
 use Rattle.rules.specs.declared.Counts.{Counts}
 use Rattle.rules.specs.declared.Place.{Place}
 use Rattle.rules.specs.Bytes.{bytes}
-use Rattle.rules.specs.Base.{same, nth?, or_else}
-use Rattle.std.specs.Prelude.{if◌then◌else◌}
+use Rattle.rules.specs.Base.{same, nth?}
 use Rattle.rules.specs.Tokens.{Key, Token, is}
 use Rattle.rules.specs.Words.{word_at, body_at}
-use Rattle.rules.specs.Sheet.{Env, Param, QueryParams, None, Indexed, Named, body_part, list_of, indent_from, options_of, token_of, value_of, param_of, params_of, env_of, tokens_of}
+use Rattle.rules.specs.Sheet.{Env, Param, QueryParams, NoParams, Indexed, Named, body_part, list_of, indent_from, options_of, token_of, value_of, param_of, params_of, env_of, tokens_of}
 use Rattle.rules.specs.Text.{line_feeds}
 use Rattle.rules.specs.Switch.{Switch, turn_of, switch_after, switched_on}
 use Rattle.rules.specs.Params.{source, value_in, value_at, value_from, entry, get}
@@ -39,11 +38,11 @@ Each f [] = Unit {0}
 Each f (x ∷ xs) = (length (f x) ≤ 65536) × Each f xs
 
 abbrev Shown : Option (List ℕ) → Type 0
-Shown none = Unit {0}
-Shown (some v) = length v ≤ 65536
+Shown None = Unit {0}
+Shown (Some v) = length v ≤ 65536
 
 abbrev pub Entries : QueryParams → Type 0
-Entries None = Unit {0}
+Entries NoParams = Unit {0}
 Entries (Indexed vs) = Each (λ v. v) vs
 Entries (Named ps) = Each (λ (p : Param). p.value) ps
 
@@ -67,14 +66,14 @@ shown-param (p ∷ ps) (suc n) h = shown-param ps n h.1
 
 shown-from : (ps : QueryParams) (o : Option ℕ) → Entries ps → Shown (value_from ps o)
 unfolding value_from value_at
-shown-from ps none h = tt
-shown-from None (some n) h = tt
-shown-from (Indexed vs) (some n) h = shown-nth vs n h
-shown-from (Named ps) (some n) h = shown-param ps n h
+shown-from ps None h = tt
+shown-from NoParams (Some n) h = tt
+shown-from (Indexed vs) (Some n) h = shown-nth vs n h
+shown-from (Named ps) (Some n) h = shown-param ps n h
 
-shown-or : (o : Option (List ℕ)) (v : List ℕ) → Shown o → length v ≤ 65536 → length (or_else v o) ≤ 65536
-shown-or none v h l = l
-shown-or (some w) v h l = h
+shown-or : (o : Option (List ℕ)) (v : List ℕ) → Shown o → length v ≤ 65536 → length (unwrap_or o v) ≤ 65536
+shown-or None v h l = l
+shown-or (Some w) v h l = h
 
 length-get : (ps : QueryParams) (k : Key) (i : ℕ) (v : List ℕ) → Entries ps → length v ≤ 65536 → length (get ps k i v) ≤ 65536
 unfolding get entry
@@ -182,7 +181,7 @@ module _ (s : List ℕ) (c : Counts) (l : length s ≤ 65536) where
   unfolding params_of value_of
   entries-few = go (eqb (word_at s 16) 0) (eqb (word_at s 16) 1)
     where
-      go : (a b : Bool) → Entries (if a then None else if b then Indexed (list_of (value_of s c) 0 c.params) else Named (list_of (param_of s c) 0 c.params))
+      go : (a b : Bool) → Entries (if a then NoParams else if b then Indexed (list_of (value_of s c) 0 c.params) else Named (list_of (param_of s c) 0 c.params))
       go true b = tt
       go false true = each-listed (λ v. v) (value_of s c) (λ i. length_part s _ _ l) 0 c.params
       go false false = each-listed (λ (p : Param). p.value) (param_of s c) (λ i. length_part s _ _ l) 0 c.params

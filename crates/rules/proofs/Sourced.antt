@@ -1,7 +1,7 @@
 -- Wish 2: what is shown at each placeholder comes from the entry in its row, or from the token itself. Assumes nothing.
 use mathlib.Core.Path.{◌≡◌, refl}
 use mathlib.Core.Bool.{Bool, true, false, false≢true}
-use mathlib.Core.Option.{Option, none, some}
+use Rattle.std.specs.Prelude.{Option, None, Some, unwrap_or}
 use mathlib.Core.List.{List, [], ◌∷◌}
 use Prim.Native.Nat.{ℕ, suc, ◌+◌, ◌≤◌}
 use native.Mathlib.Nat.{zero-add, add-zero}
@@ -11,7 +11,7 @@ use Rattle.rules.specs.declared.TokenKind.{TokenKind}
 use Rattle.rules.specs.declared.TokenKind.TheVariants as kind
 use Rattle.rules.specs.declared.Turn.{Turn}
 use Rattle.rules.specs.declared.Turn.TheVariants as turn
-use Rattle.rules.specs.Base.{when, nth?, or_else}
+use Rattle.rules.specs.Base.{when, nth?}
 use Rattle.rules.specs.Tokens.{Token, is}
 use Rattle.rules.specs.Sheet.{QueryParams}
 use Rattle.rules.specs.Params.{source, value_from}
@@ -20,10 +20,10 @@ use Rattle.rules.specs.Rows.{lays_out}
 use Rattle.rules.specs.Shown.{Shown, showing, shown_from, shown, From, AllSourced}
 use Rattle.rules.proofs.Own.{Found, found-source}
 
-from_found : (ps : QueryParams) (t : Token) (o : Option ℕ) → Found ps o → From ps t o (or_else t.value (value_from ps o))
+from_found : (ps : QueryParams) (t : Token) (o : Option ℕ) → Found ps o → From ps t o (unwrap_or (value_from ps o) t.value)
 unfolding value_from
-from_found ps t none f = refl
-from_found ps t (some n) f = rw f.1
+from_found ps t None f = refl
+from_found ps t (Some n) f = rw f.1
 
 -- only a placeholder is laid out so
 lays-placeholder : (t : Turn) (k : TokenKind) → lays_out t k ≡ true → is k kind.Placeholder ≡ true
@@ -38,7 +38,7 @@ module _ (ps : QueryParams) (ts : List Token) where
   sourced-within m n [] h p = tt
   sourced-within m n (x ∷ xs) h p = let l = p.0 in (omega arith, p.1, p.2)
 
-  sourced-here : (n i : ℕ) (t : Token) (f : Bool) → nth? ts n ≡ some t → (f ≡ true → is t.kind kind.Placeholder ≡ true) → (xs : List Shown) → AllSourced ps ts n xs
+  sourced-here : (n i : ℕ) (t : Token) (f : Bool) → nth? ts n ≡ Some t → (f ≡ true → is t.kind kind.Placeholder ≡ true) → (xs : List Shown) → AllSourced ps ts n xs
       → AllSourced ps ts (suc n) (when f (λ ys. showing ps n i t ∷ ys) xs)
   unfolding when showing
   sourced-here n i t true h k xs p = (omega arith, record { token = t; sent = h; placeholder = k refl; from = from_found ps t (source ps t.key i) (found-source ps t.key i) }, p)
@@ -50,7 +50,7 @@ module _ (ps : QueryParams) (ts : List Token) where
   sourced-from n i w [] xs h p = rw (add-zero n) p
   sourced-from n i w (t ∷ after) xs h p =
       let turn : Turn = turn_of w t.kind t.value in
-      let here : nth? ts n ≡ some t = rw (add-zero n) at (h 0) in
+      let here : nth? ts n ≡ Some t = rw (add-zero n) at (h 0) in
       let later : (j : ℕ) → nth? ts (suc n + j) ≡ nth? after j = λ j. let m : suc n + j ≡ n + suc j = omega arith in rw m (h (suc j)) in
       let m : n + suc (length after) ≡ suc n + length after = omega arith in
       rw m (sourced-from (suc n) _ (switch_after turn w) after _ later (sourced-here n i t (lays_out turn t.kind) here (lays-placeholder turn t.kind) xs p))

@@ -1,7 +1,7 @@
 -- A token adds no more than its term of Wish 9's sum: rule by rule, then for any kind and however it is taken. Assumes nothing.
 use mathlib.Core.Path.{◌≡◌, refl}
 use mathlib.Core.Bool.{Bool, true, false}
-use mathlib.Core.Option.{Option, none, some}
+use Rattle.std.specs.Prelude.{Option, None, Some, if◌then◌else◌}
 use mathlib.Core.List.{List, [], ◌∷◌}
 use Prim.Native.Nat.{ℕ, suc, ◌+◌, ◌-◌, ◌*◌, ◌≤◌}
 use native.Mathlib.Omega.{arith}
@@ -15,7 +15,6 @@ use Rattle.rules.specs.declared.SpanInfo.{SpanInfo}
 use Rattle.rules.specs.declared.BlockInfo.{BlockInfo}
 use Rattle.rules.specs.Bytes.{bytes}
 use Rattle.rules.specs.Base.{same}
-use Rattle.std.specs.Prelude.{if◌then◌else◌}
 use Rattle.rules.specs.Tokens.{Token, Here, is}
 use Rattle.rules.specs.Sheet.{Env}
 use Rattle.rules.specs.Text.{indent_comment, line_feeds, mark}
@@ -86,8 +85,8 @@ module _ (e : Env) where
 
   indents_inlined : (o : Option SpanInfo) {s : State} → Grows e.room s (indent_inlined o s) 0
   unfolding indent_inlined
-  indents_inlined none {s} = stays s
-  indents_inlined (some sp) = maybe _ _ (increases sp)
+  indents_inlined None {s} = stays s
+  indents_inlined (Some sp) = maybe _ _ (increases sp)
 
   module _ (h : Here) where
     abbrev v : List ℕ

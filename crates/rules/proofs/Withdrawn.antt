@@ -1,18 +1,18 @@
 -- Wish 12: a sheet whose word 7 is 1 is refused with 14 by every layout call, whatever it is lent; any other that passes checks 1 to 4 is laid out as before. Assumes nothing.
+use Rattle.std.specs.Prelude.{Ok}
 use mathlib.Core.Path.{◌≡◌}
 use mathlib.Core.List.{List}
 use Prim.Native.Nat.{ℕ}
 use native.Mathlib.Omega.{arith}
 use borrow.Author.Tests.{eq-eqb, ne_eqb, le-ltb}
 use Rattle.rules.specs.declared.Counts.{Counts}
-use Rattle.rules.specs.declared.Checked.TheVariants as found
 use Rattle.rules.specs.Words.{word_at}
 use Rattle.rules.specs.Checks.{checked}
 use Rattle.rules.specs.Sheet.{env_of, tokens_of}
 use Rattle.rules.specs.Answer.{refusal, format, is_withdrawn, answer_as, answer}
 use Rattle.rules.specs.Rows.{to_lay_out, is_short, listed_as, listed}
 
-module _ (s : List ℕ) (c : Counts) (sound : checked s ≡ found.Sound c) where
+module _ (s : List ℕ) (c : Counts) (sound : checked s ≡ Ok c) where
   module _ (one : word_at s 28 ≡ 1) where
     pub plain-refused : (room : ℕ) → answer s room ≡ refusal 14 28
     unfolding answer answer_as is_withdrawn

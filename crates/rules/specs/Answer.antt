@@ -1,14 +1,14 @@
 -- The whole: from any bytes and any buffer length to the answer, and to the bytes that the buffer holds afterwards.
-use Rattle.std.specs.Prelude.{if◌then◌else◌, Bool, List, [], ◌∷◌, ◌++◌, ℕ, ◌-◌, eqb, length, replicate}
+use Rattle.rules.specs.declared.Counts.{Counts}
+use Rattle.rules.specs.declared.Offence.{Offence}
+use Rattle.std.specs.Prelude.{if◌then◌else◌, Bool, List, [], ◌∷◌, ◌++◌, ℕ, ◌-◌, eqb, length, replicate, Err, Ok, Result}
 use Rattle.rules.specs.declared.Turn.{Turn}
 use Rattle.rules.specs.declared.Turn.TheVariants as turn
-use Rattle.rules.specs.declared.Checked.{Checked}
-use Rattle.rules.specs.declared.Checked.TheVariants as found
 use Rattle.rules.specs.declared.Report.{Report}
 use Rattle.rules.specs.Tokens.{Token, Here}
 use Rattle.rules.specs.Text.{Text, fits, refused, mark, bytes_in, trimmed, lines, width}
 use Rattle.rules.specs.Words.{word_at}
-use Rattle.rules.specs.Checks.{checked}
+use Rattle.rules.specs.Checks.{checked, number_of, place_of}
 use Rattle.rules.specs.Sheet.{Env, env_of, tokens_of}
 use Rattle.rules.specs.Switch.{Switch, turn_of, switch_after, switched_on}
 use Rattle.rules.specs.State.{State, start, on_text}
@@ -62,12 +62,9 @@ unfoldable pub is_withdrawn : List ℕ → Bool
 is_withdrawn s = eqb (word_at s 28) 1
 
 -- refusal 14 comes after 4 and before all others
-unfoldable pub answer_as : List ℕ → ℕ → Checked → Answer
-answer_as s room (found.Sound c) = if is_withdrawn s then refusal 14 28 else format (env_of s c room) (tokens_of s c)
-answer_as s room found.Size = refusal 1 0
-answer_as s room (found.Word p) = refusal 2 p
-answer_as s room (found.Place p) = refusal 3 p
-answer_as s room (found.Byte p) = refusal 4 p
+unfoldable pub answer_as : List ℕ → ℕ → Result Counts Offence → Answer
+answer_as s room (Ok c) = if is_withdrawn s then refusal 14 28 else format (env_of s c room) (tokens_of s c)
+answer_as s room (Err o) = refusal (number_of o) (place_of o)
 
 unfoldable pub answer : List ℕ → ℕ → Answer
 answer s room = answer_as s room (checked s)

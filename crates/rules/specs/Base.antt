@@ -1,8 +1,5 @@
 -- Tests and choices that the rules share.
-use Rattle.std.specs.Prelude.{if◌then◌else◌, Bool, true, false, ◌&&◌, ◌||◌, List, [], ◌∷◌, ℕ, zero, suc, eqb, leb, length}
-use Rattle.std.proofs.Math.Option.{Option, none, some}
-use Rattle.rules.specs.declared.Limit.{Limit}
-use Rattle.rules.specs.declared.Limit.TheVariants as limit
+use Rattle.std.specs.Prelude.{if◌then◌else◌, Bool, true, false, ◌&&◌, ◌||◌, List, [], ◌∷◌, ℕ, zero, suc, eqb, leb, length, Option, None, Some, unwrap_or}
 
 infixl 20 ◌▹◌
 -- a value, then what is done to it: rules read from left to right, as the code runs
@@ -29,40 +26,31 @@ any_of p (x ∷ xs) = p x || any_of p xs
 
 -- the first element with p
 abbrev pub first : {A : Type 0} → (A → Bool) → List A → Option A
-first p [] = none
-first p (x ∷ xs) = if p x then some x else first p xs
+first p [] = None
+first p (x ∷ xs) = if p x then Some x else first p xs
 
 -- the number of the first element with p, counted from n
 abbrev pub find : {A : Type 0} → (A → Bool) → ℕ → List A → Option ℕ
-find p n [] = none
-find p n (x ∷ xs) = if p x then some n else find p (suc n) xs
+find p n [] = None
+find p n (x ∷ xs) = if p x then Some n else find p (suc n) xs
 
-abbrev pub head? {ℓ} : {A : Type ℓ} → List A → Option A
-head? [] = none
-head? (x ∷ xs) = some x
+abbrev pub head? : {A : Type 0} → List A → Option A
+head? [] = None
+head? (x ∷ xs) = Some x
 
-abbrev pub nth? {ℓ} : {A : Type ℓ} → List A → ℕ → Option A
-nth? [] n = none
-nth? (x ∷ xs) zero = some x
+abbrev pub nth? : {A : Type 0} → List A → ℕ → Option A
+nth? [] n = None
+nth? (x ∷ xs) zero = Some x
 nth? (x ∷ xs) (suc n) = nth? xs n
 
 -- there is one, and p holds of it
-abbrev pub holds {ℓ} : {A : Type ℓ} → (A → Bool) → Option A → Bool
-holds p none = false
-holds p (some a) = p a
+abbrev pub holds : {A : Type 0} → (A → Bool) → Option A → Bool
+holds p None = false
+holds p (Some a) = p a
 
-abbrev pub or_else {ℓ} : {A : Type ℓ} → A → Option A → A
-or_else d none = d
-or_else d (some a) = a
-
--- `unwrap_or(0)` and `is_some` of a limit
-abbrev pub or_zero : Limit → ℕ
-or_zero limit.None = 0
-or_zero (limit.Some n) = n
-
-abbrev pub is_some : Limit → Bool
-is_some limit.None = false
-is_some (limit.Some n) = true
+-- `unwrap_or(0)` of a limit
+abbrev pub or_zero : Option ℕ → ℕ
+or_zero l = unwrap_or l 0
 
 -- the indent stack holds 128 entries
 unfoldable pub full {ℓ} : {A : Type ℓ} → List A → Bool

@@ -1,12 +1,11 @@
 -- Wish 6: a new sheet with only those body bytes that some place covers, in their old order.
-use Rattle.std.specs.Prelude.{if◌then◌else◌, ◌≡◌, Bool, true, false, ◌&&◌, ◌||◌, List, [], ◌∷◌, ◌++◌, ℕ, zero, suc, ◌+◌, ◌-◌, ◌*◌, ◌%◌, ◌≤◌, ◌<◌, eqb, leb, ltb, length, take, drop, replicate, get_or}
+use Rattle.rules.specs.declared.Offence.{Offence}
+use Rattle.std.specs.Prelude.{if◌then◌else◌, ◌≡◌, Bool, true, false, ◌&&◌, ◌||◌, List, [], ◌∷◌, ◌++◌, ℕ, zero, suc, ◌+◌, ◌-◌, ◌*◌, ◌%◌, ◌≤◌, ◌<◌, eqb, leb, ltb, length, take, drop, replicate, get_or, Err, Ok, Result}
 use Rattle.rules.specs.declared.Place.{Place}
 use Rattle.rules.specs.declared.Counts.{Counts}
-use Rattle.rules.specs.declared.Checked.{Checked}
-use Rattle.rules.specs.declared.Checked.TheVariants as found
 use Rattle.rules.specs.declared.Outcome.{Outcome}
 use Rattle.rules.specs.Words.{word_at, word_bytes, place_at, class_bits, counts_of, params_at, body_at}
-use Rattle.rules.specs.Checks.{checked}
+use Rattle.rules.specs.Checks.{checked, number_of, place_of}
 use Rattle.rules.specs.Answer.{answer}
 use Rattle.rules.specs.Rows.{listed, list_after}
 
@@ -77,12 +76,9 @@ pub data Written : Type 0 where
   wrote : List ℕ → Written
   refusal : ℕ → ℕ → Written
 
-unfoldable pub compact_as : List ℕ → ℕ → Checked → Written
-compact_as s room (found.Sound c) = if ltb room (length (compacted s c)) then refusal 11 0 else wrote (compacted s c)
-compact_as s room found.Size = refusal 1 0
-compact_as s room (found.Word p) = refusal 2 p
-compact_as s room (found.Place p) = refusal 3 p
-compact_as s room (found.Byte p) = refusal 4 p
+unfoldable pub compact_as : List ℕ → ℕ → Result Counts Offence → Written
+compact_as s room (Ok c) = if ltb room (length (compacted s c)) then refusal 11 0 else wrote (compacted s c)
+compact_as s room (Err o) = refusal (number_of o) (place_of o)
 
 unfoldable pub compact : List ℕ → ℕ → Written
 compact s room = compact_as s room (checked s)
@@ -101,7 +97,7 @@ buffer_with room (refusal n p) = replicate room 0
 
 pub record SameSheet (s t : List ℕ) : Type 0 where
   -- it passes checks 1 to 4
-  pub sound : checked t ≡ found.Sound (counts_of t)
+  pub sound : checked t ≡ Ok (counts_of t)
   -- both layout calls give the old sheet's answer
   pub answers : (room : ℕ) → answer t room ≡ answer s room
   pub listed_so : (room k : ℕ) → listed t room k ≡ listed s room k

@@ -1,19 +1,18 @@
 -- Demand 3 in its own words: what is due of a sheet, white bytes taken out. With the rules of the layout it shares the declared types, the reading of a
 -- sheet, the lists of `Base`, the bytes of a quoted text, and the recogniser of a switch comment's bytes (`check_fmt_off`); nothing else.
-use Rattle.std.specs.Prelude.{if◌then◌else◌, ◌≡◌, Bool, true, false, not, List, [], ◌∷◌, ◌++◌, map, ℕ, zero, suc, eqb, take}
-use Rattle.std.proofs.Math.Option.{Option, none, some}
+use Rattle.rules.specs.declared.Counts.{Counts}
+use Rattle.rules.specs.declared.Offence.{Offence}
+use Rattle.std.specs.Prelude.{if◌then◌else◌, ◌≡◌, Bool, true, false, not, List, [], ◌∷◌, ◌++◌, map, ℕ, zero, suc, eqb, take, Option, None, Some, Err, Ok, Result, unwrap_or}
 use Rattle.rules.specs.declared.TokenKind.{TokenKind}
 use Rattle.rules.specs.declared.TokenKind.TheVariants as kind
 use Rattle.rules.specs.declared.Case.{Case}
 use Rattle.rules.specs.declared.Case.TheVariants as case
-use Rattle.rules.specs.declared.Checked.{Checked}
-use Rattle.rules.specs.declared.Checked.TheVariants as found
 use Rattle.rules.specs.declared.Report.{Report}
 use Rattle.rules.specs.Bytes.{bytes}
-use Rattle.rules.specs.Base.{same, any_of, nth?, or_else}
+use Rattle.rules.specs.Base.{same, any_of, nth?}
 use Rattle.rules.specs.Tokens.{Key, absent, named, zero_indexed, one_indexed, Token}
 use Rattle.rules.specs.Checks.{checked}
-use Rattle.rules.specs.Sheet.{Param, QueryParams, None, Indexed, Named, options_of, params_of, keeps_of, tokens_of}
+use Rattle.rules.specs.Sheet.{Param, QueryParams, NoParams, Indexed, Named, options_of, params_of, keeps_of, tokens_of}
 use Rattle.rules.specs.Switch.{check_fmt_off}
 
 -- ---- white bytes: 9 to 13 and 32
@@ -69,25 +68,25 @@ kept_on other t = own t.value ∷ []
 
 -- a comment may switch off (true) or on (false)
 abbrev pub switches : Role → List ℕ → Option Bool
-switches blank v = none
+switches blank v = None
 switches comment v = check_fmt_off v
-switches placeholder v = none
-switches reserved v = none
-switches other v = none
+switches placeholder v = None
+switches reserved v = None
+switches other v = None
 
 -- a switch comment is dropped; while off a token of any kind is its own value
 abbrev pub kept_by : Option Bool → Bool → Token → List Piece
-kept_by (some off) on t = []
-kept_by none true t = kept_on (role_of t.kind) t
-kept_by none false t = own t.value ∷ []
+kept_by (Some off) on t = []
+kept_by None true t = kept_on (role_of t.kind) t
+kept_by None false t = own t.value ∷ []
 
 abbrev pub on_after : Option Bool → Bool → Bool
-on_after (some off) on = not off
-on_after none on = on
+on_after (Some off) on = not off
+on_after None on = on
 
 abbrev pub is_switch : Option Bool → Bool
-is_switch (some off) = true
-is_switch none = false
+is_switch (Some off) = true
+is_switch None = false
 
 -- on: the switch is on; drop: the token before was a switch comment, so that the next is dropped, of whatever kind
 unfoldable pub kept_tokens : Bool → Bool → List Token → List Piece
@@ -124,23 +123,23 @@ in_asked_case keep k v = if any_of (same v) keep then v else map (letter_in k) v
 
 -- entry n, counted from one
 abbrev pub one_based : List (List ℕ) → ℕ → Option (List ℕ)
-one_based vs zero = none
+one_based vs zero = None
 one_based vs (suc n) = nth? vs n
 
 -- the first entry with the name
 abbrev pub called_by : List ℕ → List Param → Option (List ℕ)
-called_by n [] = none
-called_by n (p ∷ ps) = if same p.name n then some p.value else called_by n ps
+called_by n [] = None
+called_by n (p ∷ ps) = if same p.name n then Some p.value else called_by n ps
 
 -- i: the count of placeholders with no key or an empty name laid out before it; a number has the name ""
 abbrev pub entry_of : QueryParams → Key → ℕ → Option (List ℕ)
-entry_of None k i = none
+entry_of NoParams k i = None
 entry_of (Indexed vs) absent i = nth? vs i
 entry_of (Indexed vs) (named []) i = nth? vs i
-entry_of (Indexed vs) (named (c ∷ n)) i = none
+entry_of (Indexed vs) (named (c ∷ n)) i = None
 entry_of (Indexed vs) (zero_indexed n) i = nth? vs n.0
 entry_of (Indexed vs) (one_indexed n) i = one_based vs n.0
-entry_of (Named ps) absent i = none
+entry_of (Named ps) absent i = None
 entry_of (Named ps) (named n) i = called_by n ps
 entry_of (Named ps) (zero_indexed n) i = called_by [] ps
 entry_of (Named ps) (one_indexed n) i = called_by [] ps
@@ -168,7 +167,7 @@ count_next (x ∷ xs) = count_one x (count_next xs)
 abbrev pub shows : QueryParams → List (List ℕ) → Case → List Piece → Piece → List ℕ
 shows ps keep k before (own v) = v
 shows ps keep k before (cased v) = in_asked_case keep k v
-shows ps keep k before (filled key v) = or_else v (entry_of ps key (count_next before))
+shows ps keep k before (filled key v) = unwrap_or (entry_of ps key (count_next before)) v
 
 -- before: those before, the last of them first
 unfoldable pub due_from : QueryParams → List (List ℕ) → Case → List Piece → List Piece → List ℕ
@@ -180,12 +179,9 @@ unfoldable pub due : QueryParams → List (List ℕ) → Case → List Token →
 due ps keep k ts = due_from ps keep k [] (kept_tokens true false ts)
 
 -- of a sheet that checks 1 to 4 pass; of another, nothing
-unfoldable pub due_in : List ℕ → Checked → List ℕ
-due_in s (found.Sound c) = due (params_of s c) (keeps_of s c) (options_of s).casing (tokens_of s c)
-due_in s found.Size = []
-due_in s (found.Word p) = []
-due_in s (found.Place p) = []
-due_in s (found.Byte p) = []
+unfoldable pub due_in : List ℕ → Result Counts Offence → List ℕ
+due_in s (Ok c) = due (params_of s c) (keeps_of s c) (options_of s).casing (tokens_of s c)
+due_in s (Err o) = []
 
 unfoldable pub due_of : List ℕ → List ℕ
 due_of s = due_in s (checked s)

@@ -2,7 +2,7 @@
 use Rattle.std.specs.Prelude.{List, [], ◌∷◌, ◌++◌, ℕ, ◌+◌, length}
 use Rattle.rules.specs.Tokens.{Key, absent, named, zero_indexed, one_indexed, Token, kind_no}
 use Rattle.rules.specs.Words.{words_bytes, packed_of}
-use Rattle.rules.specs.Sheet.{Param, QueryParams, None, Indexed, Named}
+use Rattle.rules.specs.Sheet.{Param, QueryParams, NoParams, Indexed, Named}
 
 -- the words of each record, its body starting at `at`; and the bodies
 abbrev pub records_from : {A : Type 0} → (ℕ → A → List ℕ) → (A → List ℕ) → ℕ → List A → List ℕ
@@ -43,12 +43,12 @@ token_record at t =
 -- ---- parameters
 
 abbrev pub mode_no : QueryParams → ℕ
-mode_no None = 0
+mode_no NoParams = 0
 mode_no (Indexed vs) = 1
 mode_no (Named ps) = 2
 
 abbrev pub param_count : QueryParams → ℕ
-param_count None = 0
+param_count NoParams = 0
 param_count (Indexed vs) = length vs
 param_count (Named ps) = length ps
 
@@ -59,12 +59,12 @@ abbrev pub param_body : Param → List ℕ
 param_body p = p.name ++ p.value
 
 abbrev pub param_bodies : QueryParams → List ℕ
-param_bodies None = []
+param_bodies NoParams = []
 param_bodies (Indexed vs) = bodies itself vs
 param_bodies (Named ps) = bodies param_body ps
 
 abbrev pub param_records : ℕ → QueryParams → List ℕ
-param_records at None = []
+param_records at NoParams = []
 param_records at (Indexed vs) = records_from (λ n v. 0 ∷ 0 ∷ n ∷ length v ∷ []) itself at vs
 param_records at (Named ps) =
     records_from (λ n p. n ∷ length p.name ∷ (n + length p.name) ∷ length p.value ∷ []) param_body at ps

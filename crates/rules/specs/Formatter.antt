@@ -1,17 +1,14 @@
 -- formatter.rs, function by function.
-use Rattle.std.specs.Prelude.{if◌then◌else◌, Bool, true, false, not, ◌&&◌, ◌||◌, ℕ, suc, ◌+◌, ◌-◌, eqb, leb, ltb, length, replicate}
-use Rattle.std.proofs.Math.Option.{Option, none, some}
+use Rattle.std.specs.Prelude.{if◌then◌else◌, Bool, true, false, not, ◌&&◌, ◌||◌, ℕ, suc, ◌+◌, ◌-◌, eqb, leb, ltb, length, replicate, Option, None, Some, is_some}
 use mathlib.Core.List.{List, [], ◌∷◌, tail}
 use Rattle.rules.specs.declared.TokenKind.{TokenKind}
 use Rattle.rules.specs.declared.TokenKind.TheVariants as kind
 use Rattle.rules.specs.declared.Case.{Case}
 use Rattle.rules.specs.declared.Case.TheVariants as case
-use Rattle.rules.specs.declared.Limit.{Limit}
-use Rattle.rules.specs.declared.Limit.TheVariants as limit
 use Rattle.rules.specs.declared.SpanInfo.{SpanInfo}
 use Rattle.rules.specs.declared.BlockInfo.{BlockInfo}
 use Rattle.rules.specs.Bytes.{bytes}
-use Rattle.rules.specs.Base.{◌▹◌, same, any_of, first, head?, holds, or_zero, is_some, choose, when, full}
+use Rattle.rules.specs.Base.{◌▹◌, same, any_of, first, head?, holds, or_zero, choose, when, full}
 use Rattle.rules.specs.Tokens.{Token, Here, is, one_of}
 use Rattle.rules.specs.Sheet.{Env}
 use Rattle.rules.specs.Text.{in_case, is_lower, equalize_whitespace, indent_comment, is_on}
@@ -102,10 +99,10 @@ format_top_level_reserved_word_no_indent e h sp s =
     ▹ on_indentation (set_previous_top_level h.token.value sp)
 
 -- without a limit or a top-level word before it a new line; else only where the two are longer than the limit
-unfoldable pub newline_before : Limit → Option SpanInfo → ℕ → Bool
-newline_before limit.None sp n = true
-newline_before (limit.Some most) none n = true
-newline_before (limit.Some most) (some sp) n = ltb most (sp.full_span + n)
+unfoldable pub newline_before : Option ℕ → Option SpanInfo → ℕ → Bool
+newline_before None sp n = true
+newline_before (Some most) None n = true
+newline_before (Some most) (Some sp) n = ltb most (sp.full_span + n)
 
 unfoldable pub format_newline_after_reserved_word : Env → Here → SpanInfo → State → State
 format_newline_after_reserved_word e h sp s =
@@ -114,14 +111,14 @@ format_newline_after_reserved_word e h sp s =
     ▹ increase_top_level sp ▹ add_new_line e
     ▹ on_indentation (set_previous_top_level h.token.value sp)
 
-unfoldable pub over_limit : Limit → ℕ → Bool
-over_limit limit.None n = true
-over_limit (limit.Some most) n = ltb most n
+unfoldable pub over_limit : Option ℕ → ℕ → Bool
+over_limit None n = true
+over_limit (Some most) n = ltb most n
 
 -- a top-level word that was inlined is indented now
 unfoldable pub indent_inlined : Option SpanInfo → State → State
-indent_inlined none s = s
-indent_inlined (some sp) s = when (not sp.newline_after) (increase_top_level sp) s
+indent_inlined None s = s
+indent_inlined (Some sp) s = when (not sp.newline_after) (increase_top_level sp) s
 
 unfoldable pub after_line_comment : Here → Bool
 after_line_comment h = holds (kind_is kind.LineComment) (previous_non_whitespace_token h)
@@ -200,8 +197,8 @@ format_placeholder e t s =
     ▹ when (advances e.params t.key) (on_index suc)
 
 unfoldable pub span_within : ℕ → Option SpanInfo → Bool
-span_within most none = false
-span_within most (some sp) = leb sp.full_span most
+span_within most None = false
+span_within most (Some sp) = leb sp.full_span most
 
 -- a comma starts a new line, but for an inline block, a LIMIT clause and arguments that fit
 unfoldable pub comma_breaks : Env → State → Bool

@@ -1,7 +1,6 @@
 -- indentation.rs: the stacks of indent kinds, spans and previous words, as lists with the top first.
 -- W is what stands for a word: its value in these rules, its place in the code.
-use Rattle.std.specs.Prelude.{if◌then◌else◌, Bool, true, false, ◌&&◌, ℕ, suc, ◌-◌, eqb, leb, get_or}
-use Rattle.std.proofs.Math.Option.{Option, none, some}
+use Rattle.std.specs.Prelude.{if◌then◌else◌, Bool, true, false, ◌&&◌, ℕ, suc, ◌-◌, eqb, leb, get_or, Option, None, Some}
 use mathlib.Core.List.{List, [], ◌∷◌, tail}
 use Rattle.rules.specs.declared.IndentType.{IndentType}
 use Rattle.rules.specs.declared.IndentType.TheVariants.{Top, Block, FoldedBlock}
@@ -22,7 +21,7 @@ unfoldable pub no_indentation : {W : Type 0} → Indentation W
 no_indentation = record { indent_types = []; top_level_span = []; previous = [] }
 
 unfoldable pub no_previous : {W : Type 0} → PreviousTokens W
-no_previous = record { top_level_reserved = none; reserved = none }
+no_previous = record { top_level_reserved = None; reserved = None }
 
 -- the entries that aren't folded
 unfoldable pub unfolded : List IndentType → ℕ
@@ -82,12 +81,12 @@ unfoldable pub asked : SpanInfo → SpanInfo
 asked sp = record { full_span = sp.full_span; blocks = 0; newline_before = false; newline_after = sp.newline_after; arguments = (if is_single sp then 1 else 0) }
 
 unfoldable pub mark_reserved : {W : Type 0} → W → List (PreviousTokens W) → List (PreviousTokens W)
-mark_reserved v [] = record { top_level_reserved = none; reserved = some v } ∷ []
-mark_reserved v (p ∷ ps) = record { top_level_reserved = p.top_level_reserved; reserved = some v } ∷ ps
+mark_reserved v [] = record { top_level_reserved = None; reserved = Some v } ∷ []
+mark_reserved v (p ∷ ps) = record { top_level_reserved = p.top_level_reserved; reserved = Some v } ∷ ps
 
 unfoldable pub mark_top_level : {W : Type 0} → W → SpanInfo → List (PreviousTokens W) → List (PreviousTokens W)
-mark_top_level v sp [] = record { top_level_reserved = some (asked sp); reserved = some v } ∷ []
-mark_top_level v sp (p ∷ ps) = record { top_level_reserved = some (asked sp); reserved = p.reserved } ∷ ps
+mark_top_level v sp [] = record { top_level_reserved = Some (asked sp); reserved = Some v } ∷ []
+mark_top_level v sp (p ∷ ps) = record { top_level_reserved = Some (asked sp); reserved = p.reserved } ∷ ps
 
 unfoldable pub set_previous_reserved : {W : Type 0} → W → Indentation W → Indentation W
 set_previous_reserved v i = record { indent_types = i.indent_types; top_level_span = i.top_level_span; previous = mark_reserved v i.previous }
@@ -96,11 +95,11 @@ unfoldable pub set_previous_top_level : {W : Type 0} → W → SpanInfo → Inde
 set_previous_top_level v sp i = record { indent_types = i.indent_types; top_level_span = i.top_level_span; previous = mark_top_level v sp i.previous }
 
 unfoldable pub last_reserved : {W : Type 0} → List (PreviousTokens W) → Option W
-last_reserved [] = none
+last_reserved [] = None
 last_reserved (p ∷ ps) = p.reserved
 
 unfoldable pub last_top_level : {W : Type 0} → List (PreviousTokens W) → Option SpanInfo
-last_top_level [] = none
+last_top_level [] = None
 last_top_level (p ∷ ps) = p.top_level_reserved
 
 unfoldable pub previous_reserved : {W : Type 0} → Indentation W → Option W

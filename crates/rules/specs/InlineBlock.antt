@@ -1,11 +1,10 @@
 -- inline_block.rs: the length of a block, and the open inline blocks, as a list of their lengths with the innermost first.
-use Rattle.std.specs.Prelude.{if◌then◌else◌, Bool, true, false, not, ◌&&◌, ◌||◌, List, [], ◌∷◌, ℕ, ◌+◌, ◌-◌, max, eqb, leb, ltb, length, get_or}
+use Rattle.std.specs.Prelude.{if◌then◌else◌, Bool, true, false, not, ◌&&◌, ◌||◌, List, [], ◌∷◌, ℕ, ◌+◌, ◌-◌, max, eqb, leb, ltb, length, get_or, Option, None, Some}
 use Rattle.rules.specs.declared.TokenKind.{TokenKind}
 use Rattle.rules.specs.declared.TokenKind.TheVariants as kind
 use Rattle.rules.specs.declared.Part.{Part}
 use Rattle.rules.specs.declared.Part.TheVariants as part
 use Rattle.rules.specs.declared.Start.{Start}
-use Rattle.rules.specs.declared.Start.TheVariants as start
 use Rattle.rules.specs.declared.BlockInfo.{BlockInfo}
 use Rattle.rules.specs.declared.FormatOptions.{FormatOptions}
 use Rattle.rules.specs.Bytes.{bytes}
@@ -76,13 +75,13 @@ closes_at part.Comment level = false
 closes_at part.Rest level = false
 
 -- a second top-level word at the level of the first ends a span; the first starts one
-abbrev pub start_after : Start → ℕ → ℕ → Start
-start_after start.Nowhere level len = start.At level len
-start_after (start.At l s) level len = if eqb l level then start.Nowhere else start.At l s
+abbrev pub start_after : Option Start → ℕ → ℕ → Option Start
+start_after None level len = Some (record { level = level; span = len })
+start_after (Some w) level len = if eqb w.level level then None else Some w
 
-abbrev pub span_after : Start → ℕ → ℕ → ℕ → ℕ
-span_after start.Nowhere level len best = best
-span_after (start.At l s) level len best = if eqb l level then max best (len - s) else best
+abbrev pub span_after : Option Start → ℕ → ℕ → ℕ → ℕ
+span_after None level len best = best
+span_after (Some w) level len best = if eqb w.level level then max best (len - w.span) else best
 
 -- a token of the part, its value being n bytes long
 abbrev pub measured_in : Part → ℕ → BlockInfo → BlockInfo
@@ -122,7 +121,7 @@ build_from (t ∷ ts) b =
 
 abbrev pub unbuilt : BlockInfo
 unbuilt =
-    record { length = 0; level = 0; start = start.Nowhere; top_level_token_span = 0; has_forbidden_tokens = false; has_reserved_tokens = false }
+    record { length = 0; level = 0; start = None; top_level_token_span = 0; has_forbidden_tokens = false; has_reserved_tokens = false }
 
 unfoldable pub build_info : List Token → BlockInfo
 build_info ts = build_from ts unbuilt

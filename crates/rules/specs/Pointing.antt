@@ -4,7 +4,7 @@ use Prim.Native.String.{String}
 use Rattle.rules.specs.declared.TokenKind.TheVariants as kind
 use Rattle.rules.specs.Bytes.{bytes}
 use Rattle.rules.specs.Tokens.{Key, zero_indexed, one_indexed, Token}
-use Rattle.rules.specs.Sheet.{QueryParams, None, Indexed, Named}
+use Rattle.rules.specs.Sheet.{QueryParams, NoParams, Indexed, Named}
 use Rattle.rules.specs.Encode.{encode}
 use Rattle.rules.specs.Answer.{Answer, refusal}
 use Rattle.rules.specs.Rows.{listed, list_after}
@@ -62,7 +62,7 @@ counted =
     listing (indexed ("7" ∷ "12" ∷ [])) (P "?" ∷ P "?" ∷ P "?" ∷ []) 15 (text "7 12 ?" 1 6) (row 0 0 0 1 ++ row 1 1 2 2 ++ row 2 unset 5 1)
     ∷ listing (indexed ("7" ∷ "12" ∷ [])) (P "?" ∷ P "?" ∷ P "?" ∷ []) 18 (text "7 12 ?" 1 6) (row 0 0 0 1 ++ row 1 1 2 2 ++ row 2 unset 5 1 ++ replicate 3 0)
     ∷ listing (indexed ("7" ∷ "12" ∷ [])) (P "?" ∷ P "?" ∷ P "?" ∷ []) 14 (refusal 10 0) (replicate 14 0)
-    ∷ listing None [] 2 (text "" 0 0) (replicate 2 0)
+    ∷ listing NoParams [] 2 (text "" 0 0) (replicate 2 0)
     ∷ []
 
 -- white values: a cut and the trims reach into a value, and past it
@@ -94,8 +94,8 @@ switched =
     ∷ listing (indexed ("7" ∷ [])) (tok kind.LineComment "-- fmt: off" ∷ S "\n" ∷ P "?" ∷ P "?" ∷ []) 0 (text "??" 1 2) []
     ∷ listing (indexed ("7" ∷ [])) (one_based 0 ∷ P "?" ∷ []) 9 (refusal 10 0) (replicate 9 0)
     ∷ listing (indexed ("7" ∷ [])) (P "?" ∷ one_based 0 ∷ []) 10 (refusal 5 1) (replicate 10 0)
-    ∷ record { sheet = encode (options 3 50 unset) None [] (P "?" ∷ []); words = 4; wanted = record { answer = refusal 2 24; list = replicate 4 0 } }
-    ∷ record { sheet = encode (2 ∷ 0 ∷ 1 ∷ 1 ∷ 50 ∷ unset ∷ unset ∷ []) None [] (P "?" ∷ []); words = 4; wanted = record { answer = refusal 14 28; list = replicate 4 0 } }
+    ∷ record { sheet = encode (options 3 50 unset) NoParams [] (P "?" ∷ []); words = 4; wanted = record { answer = refusal 2 24; list = replicate 4 0 } }
+    ∷ record { sheet = encode (2 ∷ 0 ∷ 1 ∷ 1 ∷ 50 ∷ unset ∷ unset ∷ []) NoParams [] (P "?" ∷ []); words = 4; wanted = record { answer = refusal 14 28; list = replicate 4 0 } }
     ∷ []
 
 abbrev pub pointing : List Listing

@@ -1,18 +1,18 @@
 -- Wish 9: how long a buffer is always enough, token by token.
-use Rattle.std.specs.Prelude.{if◌then◌else◌, ◌&&◌, List, [], ◌∷◌, ℕ, suc, ◌+◌, ◌*◌, length}
+use Rattle.rules.specs.declared.Counts.{Counts}
+use Rattle.rules.specs.declared.Offence.{Offence}
+use Rattle.std.specs.Prelude.{if◌then◌else◌, ◌&&◌, List, [], ◌∷◌, ℕ, suc, ◌+◌, ◌*◌, length, Err, Ok, Result}
 use Rattle.rules.specs.declared.TokenKind.TheVariants as kind
 use Rattle.rules.specs.declared.Turn.{Turn}
 use Rattle.rules.specs.declared.Turn.TheVariants as turn
 use Rattle.rules.specs.declared.Indent.{Indent}
 use Rattle.rules.specs.declared.Indent.TheVariants as indent
 use Rattle.rules.specs.declared.FormatOptions.{FormatOptions}
-use Rattle.rules.specs.declared.Checked.{Checked}
-use Rattle.rules.specs.declared.Checked.TheVariants as found
 use Rattle.rules.specs.declared.Outcome.{Outcome}
 use Rattle.rules.specs.Bytes.{bytes}
 use Rattle.rules.specs.Base.{same, when}
 use Rattle.rules.specs.Tokens.{Token, is}
-use Rattle.rules.specs.Checks.{checked}
+use Rattle.rules.specs.Checks.{checked, number_of, place_of}
 use Rattle.rules.specs.Sheet.{QueryParams, options_of, params_of, tokens_of}
 use Rattle.rules.specs.Text.{line_feeds}
 use Rattle.rules.specs.Params.{get, advances}
@@ -60,12 +60,9 @@ room o ps ts = room_from o ps switched_on 0 ts
 
 -- ---- the call
 
-unfoldable pub room_as : List ℕ → Checked → Outcome
-room_as s (found.Sound c) = if is_withdrawn s then outcome_of (refusal 14 28) else record { refusal = 0; place = 0; length = room (options_of s) (params_of s c) (tokens_of s c) }
-room_as s found.Size = outcome_of (refusal 1 0)
-room_as s (found.Word p) = outcome_of (refusal 2 p)
-room_as s (found.Place p) = outcome_of (refusal 3 p)
-room_as s (found.Byte p) = outcome_of (refusal 4 p)
+unfoldable pub room_as : List ℕ → Result Counts Offence → Outcome
+room_as s (Ok c) = if is_withdrawn s then outcome_of (refusal 14 28) else record { refusal = 0; place = 0; length = room (options_of s) (params_of s c) (tokens_of s c) }
+room_as s (Err o) = outcome_of (refusal (number_of o) (place_of o))
 
 unfoldable pub room_for : List ℕ → Outcome
 room_for s = room_as s (checked s)

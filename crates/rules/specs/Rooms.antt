@@ -5,7 +5,7 @@ use Rattle.rules.specs.declared.TokenKind.TheVariants as kind
 use Rattle.rules.specs.declared.Outcome.{Outcome}
 use Rattle.rules.specs.Bytes.{bytes}
 use Rattle.rules.specs.Tokens.{Token, one_indexed}
-use Rattle.rules.specs.Sheet.{QueryParams, None, Indexed, Named}
+use Rattle.rules.specs.Sheet.{QueryParams, NoParams, Indexed, Named}
 use Rattle.rules.specs.Encode.{encode}
 use Rattle.rules.specs.Answer.{refusal}
 use Rattle.rules.specs.Rows.{lays_out}
@@ -47,28 +47,28 @@ to_last = comment "-- fmt: on" ∷ W "," ∷ S " " ∷ comment "--" ∷ []
 -- the indent, and word 7 at its two values
 abbrev pub indented : List Needed
 indented =
-    needs default None [] 0
-    ∷ needs default None (W "a" ∷ []) 516
-    ∷ needs (head 256 0 1) None (W "a" ∷ []) 260
-    ∷ needs flat None (W "a" ∷ []) 4
-    ∷ needs (head 2 2 1) None (W "a" ∷ []) 516
-    ∷ needs default None sheet3 2077
+    needs default NoParams [] 0
+    ∷ needs default NoParams (W "a" ∷ []) 516
+    ∷ needs (head 256 0 1) NoParams (W "a" ∷ []) 260
+    ∷ needs flat NoParams (W "a" ∷ []) 4
+    ∷ needs (head 2 2 1) NoParams (W "a" ∷ []) 516
+    ∷ needs default NoParams sheet3 2077
     ∷ []
 
 -- line feeds and `;`, in a token of any kind and in an entry
 abbrev pub lined : List Needed
 lined =
-    needs default None (tok kind.BlockComment "/*\n*/" ∷ []) 777
-    ∷ needs flat None (W "\n\na" ∷ []) 8
-    ∷ needs (head 2 0 3) None (W ";" ∷ []) 519
-    ∷ needs (head 0 0 3) None (tok kind.Reserved ";" ∷ W ";;" ∷ []) 12
+    needs default NoParams (tok kind.BlockComment "/*\n*/" ∷ []) 777
+    ∷ needs flat NoParams (W "\n\na" ∷ []) 8
+    ∷ needs (head 2 0 3) NoParams (W ";" ∷ []) 519
+    ∷ needs (head 0 0 3) NoParams (tok kind.Reserved ";" ∷ W ";;" ∷ []) 12
     ∷ needs (head 0 0 3) (Indexed (bytes ";" ∷ bytes "a\nb" ∷ [])) (P "?" ∷ P "?" ∷ []) 14
     ∷ []
 
 -- placeholders: the entry that is shown, or the own value; one-based 0 counts its own under Indexed, and under Named the entry that it shows
 abbrev pub filled : List Needed
 filled =
-    needs flat None (P "?" ∷ []) 4
+    needs flat NoParams (P "?" ∷ []) 4
     ∷ needs flat (Indexed (bytes "7" ∷ bytes "12" ∷ [])) (P "?" ∷ P "?" ∷ P "?" ∷ []) 13
     ∷ needs flat (Indexed (bytes "long value" ∷ [])) (nought "$0" ∷ P "?" ∷ W "a" ∷ []) 22
     ∷ needs flat (Named (record { name = []; value = bytes "aaa" } ∷ [])) (nought "" ∷ []) 6
@@ -79,19 +79,19 @@ abbrev pub switched : List Needed
 switched =
     needs default (Indexed (bytes "7" ∷ [])) sheet6 518
     ∷ needs flat (Indexed (bytes "long value" ∷ [])) sheet6 15
-    ∷ needs default None (comment "-- fmt: off" ∷ W "dropped" ∷ W "a\nb" ∷ S "  " ∷ W ";" ∷ []) 6
-    ∷ needs default None (comment "-- fmt: on" ∷ W "dropped" ∷ W "a" ∷ []) 516
-    ∷ needs flat None to_last 5
+    ∷ needs default NoParams (comment "-- fmt: off" ∷ W "dropped" ∷ W "a\nb" ∷ S "  " ∷ W ";" ∷ []) 6
+    ∷ needs default NoParams (comment "-- fmt: on" ∷ W "dropped" ∷ W "a" ∷ []) 516
+    ∷ needs flat NoParams to_last 5
     ∷ []
 
 -- refusals 1 to 4 and 14 give 0, with the refusal beside it
 abbrev pub faulty : List Needed
 faulty =
     refused_at [] 1 0
-    ∷ refused_at (encode (options 3 50 unset) None [] (W "a" ∷ [])) 2 24
-    ∷ refused_at (encode default None [] (W "aé" ∷ [])) 4 69
-    ∷ refused_at (encode (head 2 1 1) None [] (W "a" ∷ [])) 14 28
-    ∷ refused_at (encode (head 2 1 1) None [] (W "aé" ∷ [])) 4 69
+    ∷ refused_at (encode (options 3 50 unset) NoParams [] (W "a" ∷ [])) 2 24
+    ∷ refused_at (encode default NoParams [] (W "aé" ∷ [])) 4 69
+    ∷ refused_at (encode (head 2 1 1) NoParams [] (W "a" ∷ [])) 14 28
+    ∷ refused_at (encode (head 2 1 1) NoParams [] (W "aé" ∷ [])) 4 69
     ∷ []
 
 abbrev pub rooms : List Needed

@@ -1,13 +1,11 @@
 -- Wish 2: where each placeholder that was laid out stands in the text, and the call that lists them.
-use Rattle.std.specs.Prelude.{if◌then◌else◌, Bool, false, List, [], ◌∷◌, ◌++◌, map, ℕ, suc, ◌+◌, ◌-◌, ◌*◌, ◌/◌, ◌%◌, ◌^◌, min, ltb, length, replicate}
-use Rattle.std.proofs.Math.Option.{Option, none, some}
+use Rattle.rules.specs.declared.Offence.{Offence}
+use Rattle.std.specs.Prelude.{if◌then◌else◌, Bool, false, List, [], ◌∷◌, ◌++◌, map, ℕ, suc, ◌+◌, ◌-◌, ◌*◌, ◌/◌, ◌%◌, ◌^◌, min, ltb, length, replicate, Option, None, Some, Err, Ok, Result}
 use Rattle.rules.specs.declared.TokenKind.{TokenKind}
 use Rattle.rules.specs.declared.TokenKind.TheVariants as kind
 use Rattle.rules.specs.declared.Turn.{Turn}
 use Rattle.rules.specs.declared.Turn.TheVariants as turn
 use Rattle.rules.specs.declared.Counts.{Counts}
-use Rattle.rules.specs.declared.Checked.{Checked}
-use Rattle.rules.specs.declared.Checked.TheVariants as found
 use Rattle.rules.specs.declared.Report.{Report}
 use Rattle.rules.specs.Base.{◌▹◌, when}
 use Rattle.rules.specs.Tokens.{Token, is}
@@ -88,8 +86,8 @@ placeholders ts = placeholders_from switched_on ts
 -- ---- in words
 
 unfoldable pub entry_word : Option ℕ → ℕ
-entry_word none = 4294967295
-entry_word (some n) = n
+entry_word None = 4294967295
+entry_word (Some n) = n
 
 -- five words; the bytes before it are two of them, the low one first
 unfoldable pub row_words : Row → List ℕ
@@ -106,14 +104,11 @@ unfoldable pub to_lay_out : List ℕ → Counts → ℕ
 to_lay_out s c = if is_withdrawn s then 0 else placeholders (tokens_of s c)
 
 -- refusal 10: fewer than five words for each of them
-unfoldable pub is_short : List ℕ → ℕ → Checked → Bool
-is_short s k (found.Sound c) = ltb k (5 * to_lay_out s c)
-is_short s k found.Size = false
-is_short s k (found.Word p) = false
-is_short s k (found.Place p) = false
-is_short s k (found.Byte p) = false
+unfoldable pub is_short : List ℕ → ℕ → Result Counts Offence → Bool
+is_short s k (Ok c) = ltb k (5 * to_lay_out s c)
+is_short s k (Err o) = false
 
-unfoldable pub listed_as : List ℕ → ℕ → ℕ → Checked → Answer
+unfoldable pub listed_as : List ℕ → ℕ → ℕ → Result Counts Offence → Answer
 listed_as s room k c = if is_short s k c then refusal 10 0 else answer_as s room c
 
 unfoldable pub listed : List ℕ → ℕ → ℕ → Answer
@@ -130,12 +125,9 @@ unfoldable pub list_for : ℕ → List Row → Answer → List ℕ
 list_for k rs (laid b l w) = rows_words rs ++ replicate (k - length (rows_words rs)) 0
 list_for k rs (refusal n p) = replicate k 0
 
-unfoldable pub list_as : List ℕ → ℕ → ℕ → Checked → List ℕ
-list_as s room k (found.Sound c) = list_for k (rows (env_of s c room) (tokens_of s c)) (listed_as s room k (found.Sound c))
-list_as s room k found.Size = replicate k 0
-list_as s room k (found.Word p) = replicate k 0
-list_as s room k (found.Place p) = replicate k 0
-list_as s room k (found.Byte p) = replicate k 0
+unfoldable pub list_as : List ℕ → ℕ → ℕ → Result Counts Offence → List ℕ
+list_as s room k (Ok c) = list_for k (rows (env_of s c room) (tokens_of s c)) (listed_as s room k (Ok c))
+list_as s room k (Err o) = replicate k 0
 
 unfoldable pub list_after : List ℕ → ℕ → ℕ → List ℕ
 list_after s room k = list_as s room k (checked s)

@@ -1,5 +1,5 @@
 -- What a checked sheet says: options, parameters, keep words and tokens, values and names as bytes.
-use Rattle.std.specs.Prelude.{if◌then◌else◌, List, [], ◌∷◌, ℕ, zero, suc, ◌+◌, ◌-◌, ◌*◌, eqb, take, drop, get_or}
+use Rattle.std.specs.Prelude.{if◌then◌else◌, List, [], ◌∷◌, ℕ, zero, suc, ◌+◌, ◌-◌, ◌*◌, eqb, take, drop, get_or, None, Option, Some}
 use Rattle.rules.specs.declared.Place.{Place}
 use Rattle.rules.specs.declared.PlaceholderKind.{PlaceholderKind}
 use Rattle.rules.specs.declared.PlaceholderKind.TheVariants as key
@@ -10,8 +10,6 @@ use Rattle.rules.specs.declared.Case.{Case}
 use Rattle.rules.specs.declared.Case.TheVariants as case
 use Rattle.rules.specs.declared.Inline.{Inline}
 use Rattle.rules.specs.declared.Inline.TheVariants as inline
-use Rattle.rules.specs.declared.Limit.{Limit}
-use Rattle.rules.specs.declared.Limit.TheVariants as limit
 use Rattle.rules.specs.declared.FormatOptions.{FormatOptions}
 use Rattle.rules.specs.declared.Counts.{Counts}
 use Rattle.rules.specs.Tokens.{Key, absent, named, zero_indexed, one_indexed, Token, Here}
@@ -38,8 +36,8 @@ case_from w = get_or (case.AsIs ∷ case.Upper ∷ []) w case.Lower
 unfoldable pub inline_from : ℕ → Inline
 inline_from w = if eqb w 0 then inline.Off else inline.Comments
 
-unfoldable pub limit_from : ℕ → Limit
-limit_from w = if eqb w 4294967295 then limit.None else limit.Some w
+unfoldable pub limit_from : ℕ → Option ℕ
+limit_from w = if eqb w 4294967295 then None else Some w
 
 unfoldable pub options_of : List ℕ → FormatOptions
 options_of s =
@@ -55,11 +53,11 @@ options_of s =
 
 -- ---- tokens
 
-unfoldable pub key_read : List ℕ → ℕ → PlaceholderKind → Key
-key_read s base key.Absent = absent
-key_read s base (key.Named p) = named (body_part s base p)
-key_read s base (key.Zero n) = zero_indexed n
-key_read s base (key.One n) = one_indexed n
+unfoldable pub key_read : List ℕ → ℕ → Option PlaceholderKind → Key
+key_read s base None = absent
+key_read s base (Some (key.Named p)) = named (body_part s base p)
+key_read s base (Some (key.Zero n)) = zero_indexed n
+key_read s base (Some (key.One n)) = one_indexed n
 
 -- a declared token, read
 abbrev pub token_read : List ℕ → ℕ → declared.Token → Token
@@ -88,7 +86,7 @@ pub record Param : Type 0 where
   pub value : List ℕ
 
 pub data QueryParams : Type 0 where
-  None : QueryParams
+  NoParams : QueryParams
   Indexed : List (List ℕ) → QueryParams
   Named : List Param → QueryParams
 
@@ -104,7 +102,7 @@ param_of s c i = record { name = name_of s c i; value = value_of s c i }
 
 unfoldable pub params_of : List ℕ → Counts → QueryParams
 params_of s c =
-    if eqb (word_at s 16) 0 then None
+    if eqb (word_at s 16) 0 then NoParams
     else if eqb (word_at s 16) 1 then Indexed (list_of (value_of s c) 0 c.params)
     else Named (list_of (param_of s c) 0 c.params)
 

@@ -5,7 +5,7 @@ use Rattle.rules.specs.declared.TokenKind.{TokenKind}
 use Rattle.rules.specs.declared.TokenKind.TheVariants as kind
 use Rattle.rules.specs.Bytes.{bytes}
 use Rattle.rules.specs.Tokens.{absent, named, Token}
-use Rattle.rules.specs.Sheet.{QueryParams, None, Indexed, Named}
+use Rattle.rules.specs.Sheet.{QueryParams, NoParams, Indexed, Named}
 use Rattle.rules.specs.Encode.{encode}
 use Rattle.rules.specs.Answer.{Answer, laid, refusal}
 use Rattle.rules.specs.Computed.{Sample, given, wanted, computed}
@@ -47,7 +47,7 @@ abbrev pub sheet : List ℕ → QueryParams → List (List ℕ) → List Token �
 sheet op ps keep ts room a = record { sheet = encode op ps keep ts; room = room; wanted = a }
 
 abbrev pub plain : List ℕ → List Token → ℕ → Answer → Sample
-plain op ts room a = sheet op None [] ts room a
+plain op ts room a = sheet op NoParams [] ts room a
 
 -- ---- the sheets
 
@@ -92,7 +92,7 @@ starred =
     ∷ plain (options 0 0 0) (CREATE ∷ sheet8) ample (refusal 8 3)
     ∷ sheet default lines34 [] (line ∷ []) ample (text "3" 1 1)
     ∷ plain (options 1 50 unset) is_null ample (text "IS NULL" 1 7)
-    ∷ sheet (options 1 50 unset) None (bytes "is  null" ∷ []) is_null ample (text "is null" 1 7)
+    ∷ sheet (options 1 50 unset) NoParams (bytes "is  null" ∷ []) is_null ample (text "is null" 1 7)
     ∷ []
 
 pub starred-right : map given starred ≡ map wanted starred

@@ -1,11 +1,10 @@
 -- Wish 2 for its reader: what the second call's list says of a sheet, its report and its buffer.
-use Rattle.std.specs.Prelude.{if◌then◌else◌, ◌≡◌, ◌↔◌, true, ◌&&◌, List, [], ◌∷◌, ◌++◌, ℕ, suc, ◌+◌, ◌-◌, ◌*◌, ◌≤◌, ◌<◌, length, take, drop, replicate}
-use Rattle.std.proofs.Math.Option.{Option, none, some}
+use Rattle.rules.specs.declared.Counts.{Counts}
+use Rattle.rules.specs.declared.Offence.{Offence}
+use Rattle.std.specs.Prelude.{if◌then◌else◌, ◌≡◌, ◌↔◌, true, ◌&&◌, List, [], ◌∷◌, ◌++◌, ℕ, suc, ◌+◌, ◌-◌, ◌*◌, ◌≤◌, ◌<◌, length, take, drop, replicate, Option, None, Some, Err, Ok, Result, unwrap_or}
 use Rattle.rules.specs.declared.TokenKind.TheVariants as kind
-use Rattle.rules.specs.declared.Checked.{Checked}
-use Rattle.rules.specs.declared.Checked.TheVariants as found
 use Rattle.rules.specs.declared.Report.{Report}
-use Rattle.rules.specs.Base.{when, nth?, or_else}
+use Rattle.rules.specs.Base.{when, nth?}
 use Rattle.rules.specs.Tokens.{Token, is}
 use Rattle.rules.specs.Checks.{checked}
 use Rattle.rules.specs.Sheet.{QueryParams, options_of, params_of, keeps_of, tokens_of}
@@ -27,7 +26,7 @@ pub record Shown : Type 0 where
 unfoldable pub showing : QueryParams → ℕ → ℕ → Token → Shown
 showing ps n i t =
     let entry = source ps t.key i in
-    record { token = n; entry = entry; value = or_else t.value (value_from ps entry) }
+    record { token = n; entry = entry; value = unwrap_or (value_from ps entry) t.value }
 
 -- of the tokens from the n-th on, xs being those before; the last of them first
 unfoldable pub shown_from : QueryParams → ℕ → ℕ → Switch → List Token → List Shown → List Shown
@@ -41,25 +40,22 @@ unfoldable pub shown : QueryParams → List Token → List Shown
 shown ps ts = shown_from ps 0 0 switched_on ts []
 
 -- of a sheet that checks 1 to 4 pass and that is not withdrawn; of another, none
-unfoldable pub shown_in : List ℕ → Checked → List Shown
-shown_in s (found.Sound c) = if is_withdrawn s then [] else shown (params_of s c) (tokens_of s c)
-shown_in s found.Size = []
-shown_in s (found.Word p) = []
-shown_in s (found.Place p) = []
-shown_in s (found.Byte p) = []
+unfoldable pub shown_in : List ℕ → Result Counts Offence → List Shown
+shown_in s (Ok c) = if is_withdrawn s then [] else shown (params_of s c) (tokens_of s c)
+shown_in s (Err o) = []
 
 unfoldable pub shown_of : List ℕ → List Shown
 shown_of s = shown_in s (checked s)
 
 -- v is shown for the token t: the value of an entry; with none, its own
 abbrev pub From : QueryParams → Token → Option ℕ → List ℕ → Type 0
-From ps t none v = v ≡ t.value
-From ps t (some n) v = value_at ps n ≡ some v
+From ps t None v = v ≡ t.value
+From ps t (Some n) v = value_at ps n ≡ Some v
 
 -- one of the tokens ts is shown so, and it is a placeholder
 pub record Sourced (ps : QueryParams) (ts : List Token) (x : Shown) : Type 0 where
   pub token : Token
-  pub sent : nth? ts x.token ≡ some token
+  pub sent : nth? ts x.token ≡ Some token
   pub placeholder : is token.kind kind.Placeholder ≡ true
   pub from : From ps token x.entry x.value
 
@@ -100,12 +96,9 @@ Placed to b top (x ∷ xs) (r ∷ rs) = Points to b top x r × Placed to b r.sta
 -- ---- the call's own results
 
 -- demand 3's words, of the first n tokens of a sheet that checks 1 to 4 pass
-unfoldable pub due_to_in : List ℕ → Checked → ℕ → List ℕ
-due_to_in s (found.Sound c) n = due (params_of s c) (keeps_of s c) (options_of s).casing (take n (tokens_of s c))
-due_to_in s found.Size n = []
-due_to_in s (found.Word p) n = []
-due_to_in s (found.Place p) n = []
-due_to_in s (found.Byte p) n = []
+unfoldable pub due_to_in : List ℕ → Result Counts Offence → ℕ → List ℕ
+due_to_in s (Ok c) n = due (params_of s c) (keeps_of s c) (options_of s).casing (take n (tokens_of s c))
+due_to_in s (Err o) n = []
 
 unfoldable pub due_to : List ℕ → ℕ → List ℕ
 due_to s n = due_to_in s (checked s) n

@@ -1,6 +1,5 @@
 -- formatter.rs, `check_fmt_off`: nine states against the bytes they move on; and how a token is taken.
-use Rattle.std.specs.Prelude.{if◌then◌else◌, Bool, true, false, not, List, [], ◌∷◌, ℕ, suc, eqb, get_or}
-use Rattle.std.proofs.Math.Option.{Option, none, some}
+use Rattle.std.specs.Prelude.{if◌then◌else◌, Bool, true, false, not, List, [], ◌∷◌, ℕ, suc, eqb, get_or, Option, None, Some}
 use Prim.Native.String.{String}
 use Rattle.rules.specs.declared.TokenKind.{TokenKind}
 use Rattle.rules.specs.declared.TokenKind.TheVariants as kind
@@ -45,12 +44,12 @@ pub data Reading : Type 0 where
 unfoldable pub moved_by : ℕ → Move → Reading
 moved_by state stay = in_state state
 moved_by state next = in_state (suc state)
-moved_by state (answer off) = done (some off)
+moved_by state (answer off) = done (Some off)
 
 -- a byte that the row has not ends the reading without an answer
 unfoldable pub moved_to : ℕ → Option OnLetters → Reading
-moved_to state none = done none
-moved_to state (some m) = moved_by state m.move
+moved_to state None = done None
+moved_to state (Some m) = moved_by state m.move
 
 unfoldable pub moved : Reading → ℕ → Reading
 moved (in_state n) c = moved_to n (first (λ m. any_of (eqb c) m.letters) (get_or fmt_table n []))
@@ -61,7 +60,7 @@ read_all r [] = r
 read_all r (c ∷ cs) = read_all (moved r c) cs
 
 unfoldable pub answered : Reading → Option Bool
-answered (in_state n) = none
+answered (in_state n) = None
 answered (done o) = o
 
 unfoldable pub check_fmt_off : List ℕ → Option Bool
@@ -76,12 +75,12 @@ pub record Switch : Type 0 where
 
 -- of a token of the kind k and the value v: only comments switch
 unfoldable pub switch_in : TokenKind → List ℕ → Option Bool
-switch_in k v = if one_of (kind.LineComment ∷ kind.BlockComment ∷ []) k then check_fmt_off v else none
+switch_in k v = if one_of (kind.LineComment ∷ kind.BlockComment ∷ []) k then check_fmt_off v else None
 
 unfoldable pub turn_by : Bool → Option Bool → Turn
-turn_by enabled (some off) = turn.Switches off
-turn_by true none = turn.LaidOut
-turn_by false none = turn.Copied
+turn_by enabled (Some off) = turn.Switches off
+turn_by true None = turn.LaidOut
+turn_by false None = turn.Copied
 
 unfoldable pub turn_of : Switch → TokenKind → List ℕ → Turn
 turn_of w k v = if w.drop_next then turn.Dropped else turn_by w.enabled (switch_in k v)

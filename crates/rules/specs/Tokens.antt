@@ -1,11 +1,9 @@
 -- Tokens as the rules see them: the declared kinds and numbers, with the bytes of values and names.
-use Rattle.std.specs.Prelude.{if◌then◌else◌, Bool, List, ℕ, ◌-◌, eqb}
+use Rattle.std.specs.Prelude.{if◌then◌else◌, Bool, List, ℕ, ◌-◌, eqb, None, Option, Some}
 use Rattle.rules.specs.declared.TokenKind.{TokenKind}
 use Rattle.rules.specs.declared.TokenKind.TheVariants as kind
 use Rattle.rules.specs.declared.ZeroIndexed.{ZeroIndexed}
 use Rattle.rules.specs.declared.OneIndexed.{OneIndexed}
-use Rattle.rules.specs.declared.Index.{Index}
-use Rattle.rules.specs.declared.Index.TheVariants as index
 use Rattle.rules.specs.Base.{any_of}
 
 pub data Key : Type 0 where
@@ -55,5 +53,5 @@ abbrev pub one_of : List TokenKind → TokenKind → Bool
 one_of ks k = any_of (is k) ks
 
 -- the one conversion: a number that counts from one, as one that counts from nought
-abbrev pub from_one : OneIndexed → Index
-from_one n = if eqb n.0 0 then index.Refused else index.At (record { 0 = n.0 - 1 })
+abbrev pub from_one : OneIndexed → Option ZeroIndexed
+from_one n = if eqb n.0 0 then None else Some (record { 0 = n.0 - 1 })

@@ -1,5 +1,5 @@
 -- The sheet's words and records, at any byte offset of any bytes.
-use Rattle.std.specs.Prelude.{if◌then◌else◌, Bool, List, [], ◌∷◌, ◌++◌, ℕ, ◌+◌, ◌*◌, ◌/◌, ◌%◌, eqb, get_or}
+use Rattle.std.specs.Prelude.{if◌then◌else◌, Bool, List, [], ◌∷◌, ◌++◌, ℕ, ◌+◌, ◌*◌, ◌/◌, ◌%◌, eqb, get_or, Option, None, Some}
 use Rattle.rules.specs.declared.Place.{Place}
 use Rattle.rules.specs.declared.PlaceholderKind.{PlaceholderKind}
 use Rattle.rules.specs.declared.PlaceholderKind.TheVariants as key
@@ -84,9 +84,9 @@ unfoldable pub kind_of : ℕ → TokenKind
 kind_of n = get_or kinds n kind.Join
 
 -- the keys of classes 0, 1 and 2, and that of 3
-unfoldable pub key_of : ℕ → ℕ → ℕ → PlaceholderKind
+unfoldable pub key_of : ℕ → ℕ → ℕ → Option PlaceholderKind
 key_of class a b =
-    get_or (key.Absent ∷ key.Named (record { start = a; len = b }) ∷ key.Zero (record { 0 = a }) ∷ []) class (key.One (record { 0 = a }))
+    get_or (None ∷ Some (key.Named (record { start = a; len = b })) ∷ Some (key.Zero (record { 0 = a })) ∷ []) class (Some (key.One (record { 0 = a })))
 
 -- the token record at a byte offset
 unfoldable pub token_from : List ℕ → ℕ → Token

@@ -1,8 +1,11 @@
 // The types that the rules and the code share. The rules themselves stand in specs/.
 #![tactic(auto)]
 
+ghost use Rattle.std.specs.Prelude.{◌≡◌};
+ghost use Rattle.rules.specs.Checks.{number_of, place_of};
+
 // A part of the bodies; a start counts from the first body byte.
-#[derive(Clone, Copy)]
+#[derive(Clone, Copy, PartialEq, Eq)]
 pub struct Place {
     pub start: u32,
     pub len: u32,
@@ -10,7 +13,7 @@ pub struct Place {
 
 // ---- tokenizer.rs
 
-#[derive(Clone, Copy)]
+#[derive(Clone, Copy, PartialEq, Eq)]
 pub enum TokenKind {
     TypeSpecifier,
     Whitespace,
@@ -39,16 +42,9 @@ pub struct ZeroIndexed(pub u32);
 #[derive(Clone, Copy)]
 pub struct OneIndexed(pub u32);
 
-// A number that counts from one, converted; nought is refused.
-#[derive(Drop)]
-pub enum Index {
-    At(ZeroIndexed),
-    Refused,
-}
-
+// A key: a name, or a number.
 #[derive(Clone, Copy)]
 pub enum PlaceholderKind {
-    Absent,
     Named(Place),
     Zero(ZeroIndexed),
     One(OneIndexed),
@@ -58,7 +54,7 @@ pub enum PlaceholderKind {
 pub struct Token {
     pub kind: TokenKind,
     pub value: Place,
-    pub key: PlaceholderKind,
+    pub key: Option<PlaceholderKind>,
     pub create: bool,
 }
 
@@ -70,7 +66,7 @@ pub enum Indent {
     Tabs,
 }
 
-#[derive(Clone, Copy)]
+#[derive(Clone, Copy, PartialEq, Eq)]
 pub enum Case {
     AsIs,
     Upper,
@@ -78,17 +74,10 @@ pub enum Case {
 }
 
 // Whether all goes on one line, but for a line feed after each line comment.
-#[derive(Clone, Copy)]
+#[derive(Clone, Copy, PartialEq, Eq)]
 pub enum Inline {
     Off,
     Comments,
-}
-
-// A limit that may be left out.
-#[derive(Clone, Copy)]
-pub enum Limit {
-    None,
-    Some(u32),
 }
 
 #[derive(Clone, Copy)]
@@ -98,8 +87,8 @@ pub struct FormatOptions {
     pub inline: Inline,
     pub lines_between_queries: u8,
     pub max_inline_block: u32,
-    pub max_inline_arguments: Limit,
-    pub max_inline_top_level: Limit,
+    pub max_inline_arguments: Option<u32>,
+    pub max_inline_top_level: Option<u32>,
 }
 
 #[derive(Clone, Copy)]
@@ -113,7 +102,7 @@ pub struct SpanInfo {
 
 // ---- indentation.rs
 
-#[derive(Drop)]
+#[derive(Clone, Copy)]
 pub enum IndentType {
     Top,
     Block,
@@ -135,7 +124,7 @@ pub enum Sort {
 }
 
 // The reading ahead of a top-level word, so far.
-#[derive(Drop)]
+#[derive(Clone, Copy)]
 pub struct Scan {
     pub level: u32,
     pub full_span: u32,
@@ -144,7 +133,7 @@ pub struct Scan {
 }
 
 // How a token is taken: dropped after a switch comment; a switch comment, which switches off or on; laid out; copied.
-#[derive(Clone, Copy)]
+#[derive(Clone, Copy, PartialEq, Eq)]
 pub enum Turn {
     Dropped,
     Switches(bool),
@@ -165,18 +154,18 @@ pub enum Part {
     Rest,
 }
 
-// Where a top-level word waits for the next of its level: its level, and the length up to it.
+// A top-level word that waits for the next of its level: its level, and the length up to it.
 #[derive(Clone, Copy)]
-pub enum Start {
-    Nowhere,
-    At { level: u32, span: u32 },
+pub struct Start {
+    pub level: u32,
+    pub span: u32,
 }
 
 #[derive(Clone, Copy)]
 pub struct BlockInfo {
     pub length: u32,
     pub level: u32,
-    pub start: Start,
+    pub start: Option<Start>,
     pub top_level_token_span: u32,
     pub has_forbidden_tokens: bool,
     pub has_reserved_tokens: bool,
@@ -193,22 +182,44 @@ pub struct Counts {
     pub bytes: usize,
 }
 
-// Where a check finds its first offence.
-#[derive(Clone, Copy)]
-pub enum Offence {
-    At(usize),
-    Nowhere,
-}
+// ---- what is amiss
 
-// What checks 1 to 4 find: each with the place of its first offence.
-#[derive(Drop)]
-pub enum Checked {
-    Sound(Counts),
+// What checks 1 to 4 find amiss in a sheet: each but the first with the byte of its first offence.
+#[derive(Clone, Copy, PartialEq, Eq)]
+pub enum Offence {
     Size,
     Word(usize),
     Place(usize),
     Byte(usize),
 }
+
+impl Offence {
+    // The number of the refusal.
+    pub fn number(self) -> u32
+        ensures { result ≡ number_of self }
+    {
+        match self {
+            Offence::Size => 1,
+            Offence::Word(_) => 2,
+            Offence::Place(_) => 3,
+            Offence::Byte(_) => 4,
+        }
+    }
+
+    // The byte of the sheet; nought for its size.
+    pub fn place(self) -> usize
+        ensures { result ≡ place_of self }
+    {
+        match self {
+            Offence::Size => 0,
+            Offence::Word(at) => at,
+            Offence::Place(at) => at,
+            Offence::Byte(at) => at,
+        }
+    }
+}
+
+// ---- answers in numbers
 
 // The answer in numbers: a refusal's number and place, or 0, 0 and the text's length, lines and width.
 #[repr(C)]

@@ -1,84 +1,50 @@
 // The rows program: one sheet on standard input; on standard output a line for each row of its text, or its refusal.
 #![tactic(auto)]
 
-use rules::Report;
-use std::io::{self, Read};
+use program::{Answer, read_input};
+use std::io;
 
-// As many rows as a sheet can have tokens.
-const WORDS: usize = 5120;
+// As many as a sheet can have tokens.
+const ROWS: usize = 1024;
 
 // The word of a row whose token's own value was shown.
 const OWN: u32 = 4294967295;
 
-fn write_refusal(rt: &impl Print, r: Report) -> io::Result<()> {
-    println!(rt; "refused {} at {}", r.refusal, r.place)
-}
-
-fn write_entry(rt: &impl Print, entry: u32) -> io::Result<()> {
-    if entry == OWN {
-        return print!(rt; " own");
+fn write_row(rt: &impl Print, [token, entry, low, high, bytes]: [u32; 5]) -> io::Result<()> {
+    print!(rt; "token {token}")?;
+    match entry {
+        OWN => print!(rt; " own")?,
+        _ => print!(rt; " entry {entry}")?,
     }
-    print!(rt; " entry {entry}")
-}
-
-fn write_position(rt: &impl Print, low: u32, high: u32) -> io::Result<()> {
     let position = (high as u64) * 4294967296 + (low as u64);
-    print!(rt; " {position}")
-}
-
-// A row whose words stand from `at` on.
-fn write_row(rt: &impl Print, rows: &[u32], at: usize) -> io::Result<()> {
-    if at < rows.len() {
-        if 5 <= rows.len() - at {
-            print!(rt; "token {}", rows[at])?;
-            write_entry(rt, rows[at + 1])?;
-            print!(rt; " from")?;
-            write_position(rt, rows[at + 2], rows[at + 3])?;
-            println!(rt; " bytes {}", rows[at + 4])?;
-        }
-    }
-    Ok(())
+    println!(rt; " from {position} bytes {bytes}")
 }
 
 // Whether token 0 is a placeholder (kind 14): then it has the first row, which may be five zero words.
 fn starts_with_one(sheet: &[u8]) -> bool {
-    if sheet.len() < 68 {
-        return false;
-    }
-    if sheet[0] == 0 {
-        if sheet[1] == 0 {
-            return false;
-        }
-    }
-    sheet[48] % 32 == 14
+    sheet.len() >= 68 && (sheet[0] != 0 || sheet[1] != 0) && sheet[48] % 32 == 14
 }
 
 // After the first row a row has a token that is not 0.
-fn write_rows(rt: &impl Print, sheet: &[u8], rows: &[u32]) -> io::Result<()> {
-    let mut at: usize = 0;
-    if starts_with_one(sheet) {
-        write_row(rt, rows, 0)?;
-        at = 5;
-    }
-    while at < rows.len() {
-        if rows[at] == 0 {
-            return Ok(());
+fn write_rows(rt: &impl Print, sheet: &[u8], rows: &[[u32; 5]]) -> io::Result<()> {
+    let mut zero_is_a_row = starts_with_one(sheet);
+    for row in rows {
+        if row[0] == 0 && !zero_is_a_row {
+            break;
         }
-        write_row(rt, rows, at)?;
-        at += 5;
+        write_row(rt, *row)?;
+        zero_is_a_row = false;
     }
     Ok(())
 }
 
 fn main(rt: HostRuntime) -> io::Result<()> {
-    // Longer than any sound sheet, so that what is not read is refused by its length.
-    let mut sheet = Vec::new(rt.alloc());
-    rt.reader().take(65536).read_to_end(&mut sheet)?;
+    let sheet = read_input(rt.alloc(), rt.reader())?;
     let mut text = [0; 65536];
-    let mut rows = [0; WORDS];
-    let r = twigmantle::twigmantle_layout_rows(&sheet, &mut text, &mut rows);
-    if r.refusal != 0 {
-        return write_refusal(&rt, r);
+    let mut rows = [[0; 5]; ROWS];
+    let words = rows.as_flattened_mut();
+    match twigmantle::twigmantle_layout_rows(&sheet, &mut text, words).or_refusal() {
+        Ok(_) => write_rows(&rt, &sheet, &rows),
+        Err(refusal) => println!(&rt; "{refusal}"),
     }
-    write_rows(&rt, &sheet, &rows)
 }

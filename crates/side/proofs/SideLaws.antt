@@ -1,65 +1,10 @@
--- Laws of parts side by side: bytes that are copied, and the two halves of a list in turn. Assumes nothing.
-use mathlib.Core.Path.{◌≡◌, refl, ◌∙◌}
+-- Laws of parts side by side: the two halves of a list in turn. Assumes nothing.
+use mathlib.Core.Path.{◌≡◌, ◌∙◌}
 use mathlib.Core.List.{List}
-use Prim.Native.Nat.{ℕ, zero, suc, ◌+◌, ◌*◌, ◌/◌, ◌%◌, ◌≤◌, ◌<◌}
-use native.Mathlib.Nat.{mul-le-mul_right}
+use Prim.Native.Nat.{ℕ, zero, suc, ◌+◌, ◌*◌, ◌/◌, ◌%◌, ◌<◌}
 use native.Mathlib.Omega.{arith}
-use lib.ListN.{length, get_or, set, length-set}
-use lib.Seq.{get_or-set_same, get_or-set_other}
-use borrow.Author.Count.{below_more}
-use Rattle.side.specs.Side.{Copied, Laid, Shuffled, SideBySide}
-
--- ---- one part after the other
-
-module _ (d : List ℕ) (start at : ℕ) (was : List ℕ) where
-  pub copied_none : Copied d start at 0 was was
-  copied_none = record { long = refl; new = λ j h. absurd (omega arith); below = λ i h. refl; above = λ i h. refl }
-
-  pub by_copy : (j : ℕ) (l : List ℕ) → at + j < length l → Copied d start at j was l → Copied d start at (j + 1) was (set l (at + j) (get_or d (start + j) 0))
-  by_copy j l h f =
-      let v = get_or d (start + j) 0 in
-      record {
-        long = length-set l (at + j) v ∙ f.long;
-        new = below_more _ j (λ i c. get_or-set_other l (at + j) (at + i) v 0 (λ e. omega arith) ∙ f.new i c) (get_or-set_same l (at + j) v 0 h);
-        below = λ i c. get_or-set_other l (at + j) i v 0 (λ e. omega arith) ∙ f.below i c;
-        above = λ i c. get_or-set_other l (at + j) i v 0 (λ e. omega arith) ∙ f.above i (omega arith);
-      }
-
-pub in-sixteenth : (k far : ℕ) → k < 16 → k * far ≤ 15 * far
-in-sixteenth k far h = mul-le-mul_right far (omega arith)
-
-module _ (d : List ℕ) (start far : ℕ) where
-  pub laid_none : (l : List ℕ) → Laid d start far 0 l
-  laid_none l = record { told = λ k j h. absurd (omega arith) }
-
-  pub by_part : (k : ℕ) (was l : List ℕ) → Laid d start far k was → Copied d (start + k * far) (8 * k) 8 was l → Laid d start far (k + 1) l
-  by_part k was l f g =
-      record {
-        told = λ i j h c. below_more (λ i. get_or l (8 * i + j) 0 ≡ get_or d (start + i * far + j) 0) k (λ i b. g.below (8 * i + j) (omega arith) ∙ f.told i j b c) (g.new j c) i h;
-      }
-
--- ---- both halves in turn
-
-module _ (d : List ℕ) where
-  pub shuffled_none : (l : List ℕ) → Shuffled d 0 l
-  shuffled_none l = record { even = λ i h. absurd (omega arith); odd = λ i h. absurd (omega arith) }
-
-  pub by-pair : (i : ℕ) (l : List ℕ) → 2 * i + 1 < length l → Shuffled d i l → Shuffled d (i + 1) (set (set l (2 * i) (get_or d i 0)) (2 * i + 1) (get_or d (64 + i) 0))
-  by-pair i l h f =
-      let v = get_or d i 0 in
-      let w = get_or d (64 + i) 0 in
-      let m = set l (2 * i) v in
-      let n : length m ≡ length l = length-set l (2 * i) v in
-      record {
-        even =
-            below_more _ i
-            (λ x c. get_or-set_other m (2 * i + 1) (2 * x) w 0 (λ e. omega arith) ∙ get_or-set_other l (2 * i) (2 * x) v 0 (λ e. omega arith) ∙ f.even x c)
-            (get_or-set_other m (2 * i + 1) (2 * i) w 0 (λ e. omega arith) ∙ get_or-set_same l (2 * i) v 0 (omega arith));
-        odd =
-            below_more _ i
-            (λ x c. get_or-set_other m (2 * i + 1) (2 * x + 1) w 0 (λ e. omega arith) ∙ get_or-set_other l (2 * i) (2 * x + 1) v 0 (λ e. omega arith) ∙ f.odd x c)
-            (get_or-set_same m (2 * i + 1) w 0 (omega arith));
-      }
+use lib.ListN.{length, get_or}
+use Rattle.side.specs.Side.{Laid, Shuffled, SideBySide}
 
 -- a shuffle brings the last bit of an index to the front
 turned : (d l : List ℕ) → Shuffled d 64 l → (i b : ℕ) → i < 64 → b < 2 → get_or l (2 * i + b) 0 ≡ get_or d (64 * b + i) 0

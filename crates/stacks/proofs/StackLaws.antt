@@ -1,52 +1,31 @@
 -- Laws of a stack in an array. Assumes nothing.
 use mathlib.Core.Path.{◌≡◌, refl, sym, ap, ◌∙◌}
-use mathlib.Core.Logic.{◌⊎◌, inl, inr, ⊎_elim}
+use mathlib.Core.Logic.{⊎_elim}
 use mathlib.Core.Bool.{Bool, true, false, ◌&&◌}
 use mathlib.Core.List.{List, [], ◌∷◌, map, tail}
 use Prim.Native.Nat.{ℕ, zero, suc, ◌+◌, ◌-◌, ◌≤◌, ◌<◌}
 use native.Mathlib.Numerals.{add-one, lt_of_le_of_ne}
 use native.Mathlib.Omega.{arith}
-use lib.Dec.{eqb, ltb}
-use lib.ListN.{length, get_or, set, replicate, length-set, length-replicate, length-map}
+use lib.ListN.{length, get_or, set, replicate, take, length-set, length-replicate, length-map}
 use lib.Seq.{get_or-set_same, get_or-set_other, ext_get_or}
-use borrow.Author.Tests.{eqb-true, eqb-false, ltb-true, ltb-false}
+use Rattle.std.specs.Prelude.{Option, slice_get, unwrap_or}
+use Rattle.std.proofs.lemmas.Bool.{cases_eq, cases_lt}
+use Rattle.std.proofs.lemmas.Option.{unwrap_or-slice_get}
+use Rattle.std.proofs.lemmas.List.{get_or-take, length-take-le}
 use Rattle.rules.specs.Base.{when}
 use Rattle.stacks.specs.Stack.{stack, Kept}
+-- for fmt_switch and table_blocks
+pub use Rattle.std.proofs.lemmas.Bool.{cases_eq as same_or}
 
 pub tail_map : {A B : Type 0} (f : A → B) (l : List A) → map f (tail l) ≡ tail (map f l)
 tail_map f [] = refl
 tail_map f (x ∷ xs) = refl
-
-false_true : {A : Type 0} → false ≡ true → A
-false_true e = absurd (let z : ◌≡◌ {A = ℕ} 0 1 = cc in omega arith)
-
-pub left-of : (a b : Bool) → (a && b) ≡ true → a ≡ true
-left-of true b e = refl
-left-of false b e = false_true e
-
-pub right_of : (a b : Bool) → (a && b) ≡ true → b ≡ true
-right_of true b e = e
-right_of false b e = false_true e
 
 -- where not both hold, a rule that needs both leaves what it is given
 pub unless_both : {A : Type 0} (a b : Bool) (f : A → A) (x : A) → (a && b) ≡ false → (b ≡ false → f x ≡ x) → when a f x ≡ x
 unfolding when
 unless_both true b f x e h = h e
 unless_both false b f x e h = refl
-
-same-or-by : (m n : ℕ) (b : Bool) → eqb m n ≡ b → (m ≡ n) ⊎ (m ≡ n → ⊥)
-same-or-by m n true h = inl (eqb-true m n h)
-same-or-by m n false h = inr (eqb-false m n h)
-
-pub same_or : (m n : ℕ) → (m ≡ n) ⊎ (m ≡ n → ⊥)
-same_or m n = same-or-by m n (eqb m n) refl
-
-lt-or-le-by : (m n : ℕ) (b : Bool) → ltb m n ≡ b → (m < n) ⊎ (n ≤ m)
-lt-or-le-by m n true h = inl (ltb-true m n h)
-lt-or-le-by m n false h = inr (ltb-false m n h)
-
-pub lt-or-le : (m n : ℕ) → (m < n) ⊎ (n ≤ m)
-lt-or-le m n = lt-or-le-by m n (ltb m n) refl
 
 module _ {A : Type 0} (z : A) where
   pub length-stack : (n : ℕ) (a : List A) → length (stack z n a) ≡ n
@@ -64,6 +43,14 @@ module _ {A : Type 0} (z : A) where
   pub stack-pop : (n : ℕ) (a : List A) → (n ≡ 0 → ⊥) → stack z n a ≡ get_or a (n - 1) z ∷ stack z (n - 1) a
   stack-pop zero a h = absurd (h refl)
   stack-pop (suc n) a h = let e : suc n - 1 ≡ n = omega arith in rw e
+
+  -- the last of the first n elements is on top
+  pub top_is : (n : ℕ) (a : List A) (o : Option A) (r : A) → n ≤ length a → o ≡ slice_get (take n a) (length (take n a) - 1) → r ≡ unwrap_or o z → r ≡ get_or (stack z n a) 0 z
+  top_is n a o r h eo er = rw (er, eo, unwrap_or-slice_get (take n a) (length (take n a) - 1) z, length-take-le n a h) (go n)
+    where
+      go : (m : ℕ) → get_or (take m a) (m - 1) z ≡ get_or (stack z m a) 0 z
+      go zero = refl
+      go (suc m) = let e : suc m - 1 ≡ m = omega arith in rw (e, get_or-take (suc m) a m z (omega arith))
 
   pub tail_stack : (n : ℕ) (a : List A) → tail (stack z n a) ≡ stack z (n - 1) a
   tail_stack zero a = refl
@@ -113,7 +100,7 @@ module _ {A : Type 0} (z : A) where
             (λ (e : i ≡ n - 1 → ⊥).
             let m : n - 1 < i = lt_of_le_of_ne g (λ q. e (sym q)) in
             get_or-set_other a (n - 1) i z z e ∙ k.above i (omega arith))
-            (same_or i (n - 1));
+            (cases_eq i (n - 1));
       }
 
   pub stack-popped : (n : ℕ) (a : List A) → stack z (n - 1) (set a (n - 1) z) ≡ tail (stack z n a)
@@ -132,7 +119,7 @@ module _ {A : Type 0} (z : A) where
       ⊎_elim
       (λ (q : i ≡ n). rw q (cc))
       (λ (q : i ≡ n → ⊥). equal_below n a b (cc) i (lt_of_le_of_ne (omega arith) q))
-      (same_or i n)
+      (cases_eq i n)
 
   pub kept-one : {cap n : ℕ} {a b : List A} → Kept z cap n a → Kept z cap n b → stack z n a ≡ stack z n b → a ≡ b
   kept-one {cap} {n} {a} {b} k m e =
@@ -141,7 +128,7 @@ module _ {A : Type 0} (z : A) where
       ⊎_elim
       (λ (q : i < n). equal_below n a b e i q)
       (λ (q : n ≤ i). k.above i q ∙ sym (m.above i q))
-      (lt-or-le i n))
+      (cases_lt i n))
 
   -- ---- what holds of every element
 
@@ -150,7 +137,7 @@ module _ {A : Type 0} (z : A) where
       ⊎_elim
       (λ (q : i ≡ n). rw (q, get_or-set_same a n v z h) p)
       (λ (q : i ≡ n → ⊥). rw (get_or-set_other a n i v z q) (every i))
-      (same_or i n)
+      (cases_eq i n)
 
   -- ---- two arrays are one where their stacks are, f telling apart elements of which P holds
 

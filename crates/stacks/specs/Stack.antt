@@ -1,5 +1,5 @@
 -- A stack in the first n elements of an array, and z above them.
-use Rattle.std.specs.Prelude.{if◌then◌else◌, ◌≡◌, List, [], ◌∷◌, ℕ, zero, suc, ◌≤◌, ltb, length, get_or}
+use Rattle.std.specs.Prelude.{◌≡◌, List, [], ◌∷◌, ℕ, zero, suc, ◌≤◌, length, get_or}
 
 -- the first n elements of a, the last of them first
 abbrev pub stack : {A : Type 0} → A → ℕ → List A → List A
@@ -11,7 +11,3 @@ pub record Kept {A : Type 0} (z : A) (cap n : ℕ) (a : List A) : Type 0 where
   pub within : n ≤ cap
   pub long : length a ≡ cap
   pub above : (i : ℕ) → n ≤ i → get_or a i z ≡ z
-
--- the place of entry n, or the last place
-abbrev pub within_of : ℕ → ℕ
-within_of n = if ltb n 128 then n else 127

@@ -1,6 +1,6 @@
 -- The stacks' operations keep the bound on the previous words. Assumes nothing.
 use mathlib.Core.Bool.{Bool, true, false}
-use mathlib.Core.Option.{Option, none, some}
+use Rattle.std.specs.Prelude.{Option, None, Some, if◌then◌else◌}
 use mathlib.Core.List.{List, [], ◌∷◌, tail}
 use Prim.Native.Nat.{ℕ, ◌≤◌, ◌<◌}
 use native.Mathlib.Omega.{arith}
@@ -8,13 +8,12 @@ use Rattle.rules.specs.declared.IndentType.{IndentType}
 use Rattle.rules.specs.declared.IndentType.TheVariants.{Top, Block, FoldedBlock}
 use Rattle.rules.specs.declared.SpanInfo.{SpanInfo}
 use Rattle.rules.specs.Base.{full}
-use Rattle.std.specs.Prelude.{if◌then◌else◌}
 use Rattle.rules.specs.Indentation.{Indentation, PreviousTokens, no_indentation, no_previous, increase_top_level, increase_block_level, pop_top, decrease_top_level, pop_block, decrease_block_level, mark_reserved, mark_top_level, set_previous_reserved, set_previous_top_level, last_reserved, previous_reserved}
 use Rattle.state.specs.Below.{WordBelow, AllBelow, Below}
 
 word-up : {k m : ℕ} → k ≤ m → (w : Option ℕ) → WordBelow k w → WordBelow m w
-word-up h none b = tt
-word-up h (some n) b = omega arith
+word-up h None b = tt
+word-up h (Some n) b = omega arith
 
 all_up : {k m : ℕ} → k ≤ m → (ps : List (PreviousTokens ℕ)) → AllBelow k ps → AllBelow m ps
 all_up h [] b = tt

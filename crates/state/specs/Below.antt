@@ -1,12 +1,11 @@
 -- The previous words are tokens already taken: their numbers stay below a bound.
-use Rattle.std.proofs.Math.Option.{Option, none, some}
-use Rattle.std.specs.Prelude.{List, [], ◌∷◌, ℕ, ◌<◌}
+use Rattle.std.specs.Prelude.{Option, None, Some, List, [], ◌∷◌, ℕ, ◌<◌}
 use Rattle.rules.specs.Indentation.{Indentation, PreviousTokens}
 
 -- a word, where there is one
 abbrev pub WordBelow : ℕ → Option ℕ → Type 0
-WordBelow k none = Unit {0}
-WordBelow k (some n) = n < k
+WordBelow k None = Unit {0}
+WordBelow k (Some n) = n < k
 
 abbrev pub AllBelow : ℕ → List (PreviousTokens ℕ) → Type 0
 AllBelow k [] = Unit {0}

@@ -1,12 +1,11 @@
 -- The stacks under another name for each word.
-use Rattle.std.proofs.Math.Option.{Option, none, some}
-use Rattle.std.specs.Prelude.{map}
+use Rattle.std.specs.Prelude.{Option, None, Some, map}
 use Rattle.rules.specs.Indentation.{Indentation, PreviousTokens, Closed}
 
 module _ {A B : Type 0} (f : A → B) where
   abbrev pub on_option : Option A → Option B
-  on_option none = none
-  on_option (some v) = some (f v)
+  on_option None = None
+  on_option (Some v) = Some (f v)
 
   abbrev pub on_previous : PreviousTokens A → PreviousTokens B
   on_previous p = record { top_level_reserved = p.top_level_reserved; reserved = on_option p.reserved }

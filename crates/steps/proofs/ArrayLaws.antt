@@ -4,9 +4,6 @@ use lib.ListN.{get_or-eq_default}
 use Rattle.steps.specs.Steps.{Below, Mapped}
 
 module _ (f : ℕ → ℕ → ℕ) (was : List ℕ) where
-  pub mapped_none : Mapped 0 f was was
-  mapped_none = record { long = refl; new = λ k h. absurd (omega arith); old = λ k h. refl }
-
   -- the next number is still the old one
   pub mapped_on : (k v : ℕ) (l : List ℕ) → k < length was → Mapped k f was l → v ≡ f k (get_or l k 0) → Mapped (k + 1) f was (set l k v)
   mapped_on k v l h m e =
@@ -16,9 +13,6 @@ module _ (f : ℕ → ℕ → ℕ) (was : List ℕ) where
         new = below_more _ k (λ i c. get_or-set_other l k i v 0 (λ z. omega arith) ∙ m.new i c) (get_or-set_same l k v 0 (omega arith) ∙ e ∙ ap (f k) (m.old k (omega arith)));
         old = λ i c. get_or-set_other l k i v 0 (λ z. omega arith) ∙ m.old i (omega arith);
       }
-
-  pub mapped_below : (k n : ℕ) (l : List ℕ) → Mapped k f was l → Below was n → get_or l k 0 < n
-  mapped_below k n l m b = rw (m.old k (omega arith)) (b.each k)
 
 -- past the sixteenth there is 0
 pub all-below : (l : List ℕ) (n : ℕ) → length l ≡ 16 → 0 < n → ((k : ℕ) → k < 16 → get_or l k 0 < n) → Below l n

@@ -2,8 +2,10 @@
 // bits, so that the next multiple of eight comes; a line feed's is all bits, so that the sum wraps to 0.
 #![tactic(auto)]
 
-ghost use Rattle.std.specs.Prelude.{◌≡◌, ◌+◌, ◌<◌, ◌≤◌, max, length, slice_index};
-ghost use Rattle.steps.specs.Steps.{code_of, on_by, feed_of, Below, Mapped};
+ghost use Rattle.std.specs.Prelude.{◌≡◌, ◌+◌, ◌*◌, ◌≤◌, length, slice_index};
+ghost use Rattle.steps.specs.Steps.{code_of, on_by, feed_of, Below, Mapped, Coded};
+
+use side::side_by_side;
 
 // ---- one byte
 
@@ -19,19 +21,13 @@ fn code(b: u8) -> u8
 pub fn on(at: u8, x: u8) -> u8
     ensures { result ≡ on_by at x }
 {
-    std::num::wrapping_add_u8(at | x, 1)
+    (at | x).wrapping_add(1)
 }
 
 pub fn feed(x: u8) -> u8
     ensures { (result ≡ feed_of x) × (result ≤ 1) }
 {
-    if x == 255 { 1 } else { 0 }
-}
-
-pub fn larger_u8(a: u8, b: u8) -> u8
-    ensures { result ≡ max a b }
-{
-    if a < b { b } else { a }
+    u8::from(x == 255)
 }
 
 // ---- arrays
@@ -40,27 +36,29 @@ pub fn codes(t: &mut [u8])
     requires { length t.old ≡ 128 }
     ensures { Mapped 128 (λ k x. code_of x) t.old t.new }
 {
-    let mut k = 0;
-    while k < 128 {
-        t[k] = code(t[k]);
-        k += 1;
+    for x in t.iter_mut() {
+        *x = code(*x);
     }
 }
 
-// A parameter is known to be a byte, an array's number is not.
-fn wide(b: u8) -> u16
-    ensures { (result ≡ b) × (result < 256) }
+// The codes of eight bytes of sixteen parts, side by side. In line, as `sixteen_on` of `narrow`.
+#[inline(always)]
+#[tactic(auto, using(crate::proofs::StepLaws::coded_all))]
+pub fn coded(text: &[u8], start: usize, far: usize) -> [u8; 128]
+    requires { start + 15 * far + 8 ≤ length text.now }
+    ensures { Coded text.now start far result }
 {
-    b as u16
+    let mut t: [u8; 128] = [0; 128];
+    side_by_side(&mut t, text, start, far);
+    codes(&mut t);
+    t
 }
 
 pub fn add(to: &mut [u16; 16], n: &[u8; 16])
-    requires { (length to.old ≡ 16) × Below to.old 65280 }
+    requires { Below to.old 65280 }
     ensures { Mapped 16 (λ k x. x + slice_index n.now k) to.old to.new }
 {
-    let mut k = 0;
-    while k < 16 {
-        to[k] += wide(n[k]);
-        k += 1;
+    for k in 0..16 {
+        to[k] += u16::from(n[k]);
     }
 }

@@ -95,27 +95,31 @@ module _ (s : List ℕ) (base n : ℕ) where
   unfolding placeholders_from
   count_turn count i w h = rw (tokens-step s base i n h) (sym (when-add (lays_out (turn_of w (token_of s base i).kind (token_of s base i).value) (token_of s base i).kind) count (placeholders_from (switch_after (turn_of w (token_of s base i).kind (token_of s base i).value) w) (tokens_from s base (i + 1) (n - (i + 1))))))
 
-  pub count-end : (count i : ℕ) (w : Switch) → n ≤ i → count_from count i w ≡ count
+  pub count_end : (i : ℕ) (w : Switch) → n ≤ i → placeholders_from w (tokens_from s base i (n - i)) ≡ 0
   unfolding placeholders_from
-  count-end count i w h = rw (tokens_none s base i n h) (omega arith)
+  count_end i w h = rw (tokens_none s base i n h)
 
   -- the same of all placeholders
 
   abbrev pub most_from : ℕ → ℕ → ℕ
   most_from count i = count + most_placeholders (tokens_from s base i (n - i))
 
-  pub most-turn : (count i : ℕ) → i < n → most_from count i ≡ most_from (when (is (token_of s base i).kind Placeholder) suc count) (i + 1)
+  pub most_turn : (count i : ℕ) → i < n → most_from count i ≡ most_from (when (is (token_of s base i).kind Placeholder) suc count) (i + 1)
   unfolding most_placeholders
-  most-turn count i h = rw (tokens-step s base i n h) (sym (when-add (is (token_of s base i).kind Placeholder) count (most_placeholders (tokens_from s base (i + 1) (n - (i + 1))))))
+  most_turn count i h = rw (tokens-step s base i n h) (sym (when-add (is (token_of s base i).kind Placeholder) count (most_placeholders (tokens_from s base (i + 1) (n - (i + 1))))))
 
-  pub most-end : (count i : ℕ) → n ≤ i → most_from count i ≡ count
+  pub most_end : (i : ℕ) → n ≤ i → most_placeholders (tokens_from s base i (n - i)) ≡ 0
   unfolding most_placeholders
-  most-end count i h = rw (tokens_none s base i n h) (omega arith)
+  most_end i h = rw (tokens_none s base i n h)
 
 pub count-all : (s : List ℕ) (c : Counts) → count_from s (body_at c) c.tokens 0 0 switched_on ≡ placeholders (tokens_of s c)
 unfolding placeholders tokens_of
 count-all s c = rw (sub-zero c.tokens) (omega arith)
 
-pub most-all : (s : List ℕ) (c : Counts) → most_from s (body_at c) c.tokens 0 0 ≡ most_placeholders (tokens_of s c)
+pub most_all : (s : List ℕ) (c : Counts) → most_from s (body_at c) c.tokens 0 0 ≡ most_placeholders (tokens_of s c)
 unfolding tokens_of
-most-all s c = rw (sub-zero c.tokens) (omega arith)
+most_all s c = rw (sub-zero c.tokens) (omega arith)
+
+pub ruleset counts = (count-all, count_turn, count_end, when-most)
+
+pub ruleset counts_all = (most_all, most_turn, most_end, when-most)

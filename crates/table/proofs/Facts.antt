@@ -1,5 +1,5 @@
 -- Blocks with the same facts are laid out alike. Assumes nothing.
-use mathlib.Core.Path.{◌≡◌, refl}
+use mathlib.Core.Path.{◌≡◌}
 use Rattle.rules.specs.declared.BlockInfo.{BlockInfo}
 use Rattle.rules.specs.declared.FormatOptions.{FormatOptions}
 use Rattle.rules.specs.Sheet.{Env}
@@ -8,9 +8,6 @@ use Rattle.rules.specs.State.{State}
 use Rattle.rules.specs.InlineBlock.{is_inline_block, begins_inline}
 use Rattle.rules.specs.Formatter.{format_opening_parentheses}
 use Rattle.table.specs.Facts.{SameFacts}
-
-pub facts-same : (a b : BlockInfo) → a ≡ b → SameFacts a b
-facts-same a b e = rw e (record { length = refl; span = refl; forbidden = refl; reserved = refl })
 
 same-inline : (op : FormatOptions) (a b : BlockInfo) → SameFacts a b → is_inline_block op a ≡ is_inline_block op b
 unfolding is_inline_block

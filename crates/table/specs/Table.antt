@@ -1,5 +1,6 @@
 -- The table of the second engine: six words for each token (docs/ahead.md).
 use Rattle.std.specs.Prelude.{if◌then◌else◌, ◌≡◌, List, ◌∷◌, ℕ, ◌+◌, ◌*◌, ◌≤◌, ◌<◌, eqb, length, get_or}
+use Rattle.std.proofs.lemmas.List.Edits.{sets}
 use Rattle.rules.specs.declared.TokenKind.TheVariants as kind
 use Rattle.rules.specs.declared.Sort.TheVariants as sort
 use Rattle.rules.specs.declared.Scan.{Scan}
@@ -11,6 +12,10 @@ use Rattle.rules.specs.InlineBlock.{build_info}
 -- word k of token i
 abbrev pub word_of : List ℕ → ℕ → ℕ → ℕ
 word_of t i k = get_or t (6 * i + k) 0
+
+-- the table with these words in row i, from word k on
+unfoldable pub with_words : List ℕ → ℕ → ℕ → List ℕ → List ℕ
+with_words t i k ws = sets t (6 * i + k) ws
 
 -- what was read is in two words from the k-th on
 pub record ReadAs (t : List ℕ) (i k : ℕ) (a : Scan) : Type 0 where

@@ -1,18 +1,31 @@
-// The table of the second engine, read: the facts of a token in the form that the handlers take them.
+// The table of the second engine: two words of a row written, and the facts of a token read in the form that the handlers take them.
 #![tactic(auto)]
 
-ghost use Rattle.std.specs.Prelude.{◌≡◌, ◌∷◌, ◌≤◌, ◌<◌};
+ghost use Rattle.std.specs.Prelude.{◌≡◌, [], ◌∷◌, ◌+◌, ◌*◌, ◌≤◌, ◌<◌, length};
 ghost use Rattle.rules.specs.declared.TokenKind.TheVariants as kind;
 ghost use Rattle.rules.specs.declared.Sort.TheVariants as sort;
 ghost use Rattle.rules.specs.Sheet.{token_of, here_at};
 ghost use Rattle.rules.specs.Span.{sort_in, top_level_tokens_info};
 ghost use Rattle.rules.specs.InlineBlock.{build_info};
 ghost use Rattle.around.specs.Readable.{Readable};
-ghost use Rattle.table.specs.Table.{column, Filled};
+ghost use Rattle.table.specs.Table.{column, with_words, Filled};
 ghost use Rattle.table.specs.Facts.{SameFacts};
 
 use ahead::span_of;
-use rules::{BlockInfo, FormatOptions, Scan, SpanInfo, Start};
+use rules::{BlockInfo, FormatOptions, Scan, SpanInfo};
+
+// Words k and k + 1 of row i. By copy_from_slice the fill takes 1.5 to 2 times as long: words that were put together in memory are read again at once.
+#[tactic(auto, using(crate::proofs::Words::two_put))]
+pub fn put_two(table: &mut [u32], i: usize, k: usize, v: u32, w: u32)
+    requires { 6 * i + k + 2 ≤ length table.old }
+    ensures { table.new ≡ with_words table.old i k (v ∷ w ∷ []) }
+{
+    let at = 6 * i + k;
+    table[at] = v;
+    table[at + 1] = w;
+}
+
+// ---- the facts
 
 // Of the open level it matters only whether it is 0.
 fn column_of(level: u32) -> usize
@@ -59,7 +72,7 @@ pub fn build_info(table: &[u32], sheet: &[u8], base: usize, n: usize, i: usize) 
     BlockInfo {
         length: table[at],
         level: 0,
-        start: Start::Nowhere,
+        start: None,
         top_level_token_span: facts / 4,
         has_forbidden_tokens: facts / 2 % 2 == 1,
         has_reserved_tokens: facts % 2 == 1,

@@ -12,9 +12,8 @@ use borrow.Author.Tests.{eq-eqb, ne_eqb, eqb-true, eqb-false}
 use Rattle.rules.specs.declared.Part.{Part}
 use Rattle.rules.specs.declared.Part.TheVariants as part
 use Rattle.rules.specs.declared.Start.{Start}
-use Rattle.rules.specs.declared.Start.TheVariants as start
 use Rattle.rules.specs.declared.BlockInfo.{BlockInfo}
-use Rattle.std.specs.Prelude.{if◌then◌else◌}
+use Rattle.std.specs.Prelude.{if◌then◌else◌, Option, None, Some}
 use Rattle.rules.specs.Sheet.{list_of}
 use Rattle.rules.specs.Tokens.{Token}
 use Rattle.rules.specs.InlineBlock.{is_top, is_newline, level_after, closes_at, start_after, span_after, measured, is_forbidden_token, forbid, build_from, unbuilt, build_info}
@@ -27,9 +26,9 @@ use Rattle.table_blocks.proofs.Counts.{depth-step, size_step, found_none, found-
 use Rattle.table_blocks.proofs.Chain.{read_none, read_step}
 
 -- levels and lengths are counted from a block's start on; d and a are the depth and the length before it
-abbrev lift : ℕ → ℕ → Start → Start
-lift d a start.Nowhere = start.Nowhere
-lift d a (start.At l s) = start.At (l + d) (s + a)
+abbrev lift : ℕ → ℕ → Option Start → Option Start
+lift d a None = None
+lift d a (Some w) = Some (record { level = w.level + d; span = w.span + a })
 
 eqb-add : (l v d : ℕ) → eqb (l + d) (v + d) ≡ eqb l v
 eqb-add l v d = by-test (eqb l v) refl
@@ -38,21 +37,17 @@ eqb-add l v d = by-test (eqb l v) refl
     by-test true e = let h = eqb-true l v e in eq-eqb (l + d) (v + d) (omega arith)
     by-test false e = ne_eqb (l + d) (v + d) (λ h. eqb-false l v e (omega arith))
 
-lift-if : (c : Bool) (d a l s : ℕ) → lift d a (if c then start.Nowhere else start.At l s) ≡ (if c then start.Nowhere else start.At (l + d) (s + a))
-lift-if true d a l s = refl
-lift-if false d a l s = refl
+lift-if : (c : Bool) (d a : ℕ) (x y : Option Start) → lift d a (if c then x else y) ≡ (if c then lift d a x else lift d a y)
+lift-if true d a x y = refl
+lift-if false d a x y = refl
 
-lift-start : (d a : ℕ) (s : Start) (level len : ℕ) → lift d a (start_after s level len) ≡ start_after (lift d a s) (level + d) (len + a)
-lift-start d a start.Nowhere level len = refl
-lift-start d a (start.At l s) level len = rw (eqb-add l level d) (lift-if (eqb l level) d a l s)
+lift-start : (d a : ℕ) (s : Option Start) (level len : ℕ) → lift d a (start_after s level len) ≡ start_after (lift d a s) (level + d) (len + a)
+lift-start d a None level len = refl
+lift-start d a (Some w) level len = rw (eqb-add w.level level d) (lift-if (eqb w.level level) d a None (Some w))
 
-lift-span : (d a : ℕ) (s : Start) (level len b : ℕ) → span_after s level len b ≡ span_after (lift d a s) (level + d) (len + a) b
-lift-span d a start.Nowhere level len b = refl
-lift-span d a (start.At l s) level len b = let e : len + a - (s + a) ≡ len - s = omega arith in rw (eqb-add l level d, e)
-
-lift-top : (c : Bool) (d a : ℕ) (x y : Start) → lift d a (if c then x else y) ≡ (if c then lift d a x else lift d a y)
-lift-top true d a x y = refl
-lift-top false d a x y = refl
+lift-span : (d a : ℕ) (s : Option Start) (level len b : ℕ) → span_after s level len b ≡ span_after (lift d a s) (level + d) (len + a) b
+lift-span d a None level len b = refl
+lift-span d a (Some w) level len b = let e : len + a - (w.span + a) ≡ len - w.span = omega arith in rw (eqb-add w.level level d, e)
 
 -- a bracket closes the block where the depth is one above that before it
 closes_as : (p : Part) (level d : ℕ) → 1 ≤ level → closes_at p (level_after p level) ≡ (is_close p && eqb (level + d) (d + 1))
@@ -123,7 +118,7 @@ module _ (f : ℕ → Token) (n i : ℕ) where
     start-on : lift (depth f i) (size f i) (taken j b).start ≡ (if is_top (part_at f j) then start_after (lift (depth f i) (size f i) b.start) (depth f j) (size f (suc j)) else lift (depth f i) (size f i) b.start)
     start-on =
         let z : size f (suc j) ≡ size f (j + 1) = ap (size f) (sym (add-one j)) in
-        lift-top (is_top (part_at f j)) (depth f i) (size f i) (start_after b.start b.level (b.length + length (f j).value)) b.start
+        lift-if (is_top (part_at f j)) (depth f i) (size f i) (start_after b.start b.level (b.length + length (f j).value)) b.start
         ∙ rw (z, ← longer-by, ← q.level_is, lift-start (depth f i) (size f i) b.start b.level (b.length + length (f j).value))
 
     span-on : (taken j b).top_level_token_span ≡ (if is_top (part_at f j) then span_after (lift (depth f i) (size f i) b.start) (depth f j) (size f (suc j)) b.top_level_token_span else b.top_level_token_span)
@@ -217,7 +212,7 @@ module _ (f : ℕ → Token) (n i m : ℕ) (o : part_at f i ≡ part.Open) (h : 
       let u = taken f n i i unbuilt in
       let g = read-inside f n i (n - (i + 1)) (i + 1) m u (omega arith) opened q in
       let p = q.past in
-      let s : u.start ≡ start.Nowhere = rw o in
+      let s : u.start ≡ None = rw o in
       let z : u.top_level_token_span ≡ 0 = rw o in
       rw build_open
       (record {

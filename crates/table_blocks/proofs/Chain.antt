@@ -7,8 +7,7 @@ use native.Mathlib.Numerals.{add-one}
 use native.Mathlib.Omega.{arith}
 use lib.Dec.{eqb}
 use Rattle.rules.specs.declared.Start.{Start}
-use Rattle.rules.specs.declared.Start.TheVariants as start
-use Rattle.std.specs.Prelude.{if◌then◌else◌}
+use Rattle.std.specs.Prelude.{if◌then◌else◌, Option, None, Some}
 use Rattle.rules.specs.Tokens.{Token}
 use Rattle.rules.specs.InlineBlock.{is_top, start_after, span_after}
 use Rattle.table_blocks.specs.Sums.{part_at, depth, size}
@@ -18,14 +17,14 @@ use Rattle.table_blocks.proofs.Firsts.{true_false, less-or, first-hit}
 
 module _ (f : ℕ → Token) where
   -- the words at which a reading changes
-  abbrev stirs : Start → ℕ → Bool
-  stirs start.Nowhere k = top_at f k
-  stirs (start.At d s) k = top_of f d k
+  abbrev stirs : Option Start → ℕ → Bool
+  stirs None k = top_at f k
+  stirs (Some w) k = top_of f w.level k
 
-  abbrev pub start_on : Start → ℕ → Start
+  abbrev pub start_on : Option Start → ℕ → Option Start
   start_on s j = if is_top (part_at f j) then start_after s (depth f j) (size f (suc j)) else s
 
-  abbrev pub span_on : Start → ℕ → ℕ → ℕ
+  abbrev pub span_on : Option Start → ℕ → ℕ → ℕ
   span_on s j b = if is_top (part_at f j) then span_after s (depth f j) (size f (suc j)) b else b
 
   quiet_if : {A : Type 0} (t q : Bool) (x y : A) → (t && q) ≡ false → (if t then (if q then x else y) else y) ≡ y
@@ -38,24 +37,24 @@ module _ (f : ℕ → Token) where
   loud_if true false x y h = absurd (true_false h refl)
   loud_if false q x y h = absurd (true_false h refl)
 
-  quiet : (s : Start) (j : ℕ) → stirs s j ≡ false → start_on s j ≡ s
-  quiet start.Nowhere j h = rw h
-  quiet (start.At d a) j h = quiet_if (is_top (part_at f j)) (eqb d (depth f j)) start.Nowhere (start.At d a) h
+  quiet : (s : Option Start) (j : ℕ) → stirs s j ≡ false → start_on s j ≡ s
+  quiet None j h = rw h
+  quiet (Some w) j h = quiet_if (is_top (part_at f j)) (eqb w.level (depth f j)) None (Some w) h
 
-  quiet-span : (s : Start) (j b : ℕ) → stirs s j ≡ false → span_on s j b ≡ b
-  quiet-span start.Nowhere j b h = rw h
-  quiet-span (start.At d a) j b h = quiet_if (is_top (part_at f j)) (eqb d (depth f j)) (max b (size f (suc j) - a)) b h
+  quiet-span : (s : Option Start) (j b : ℕ) → stirs s j ≡ false → span_on s j b ≡ b
+  quiet-span None j b h = rw h
+  quiet-span (Some w) j b h = quiet_if (is_top (part_at f j)) (eqb w.level (depth f j)) (max b (size f (suc j) - w.span)) b h
 
-  pub read_none : (j : ℕ) (s : Start) (b : ℕ) → read_span f 0 j s b ≡ b
+  pub read_none : (j : ℕ) (s : Option Start) (b : ℕ) → read_span f 0 j s b ≡ b
   unfolding read_span
   read_none j s b = refl
 
-  pub read_step : (k j : ℕ) (s : Start) (b : ℕ) → read_span f (suc k) j s b ≡ read_span f k (suc j) (start_on s j) (span_on s j b)
+  pub read_step : (k j : ℕ) (s : Option Start) (b : ℕ) → read_span f (suc k) j s b ≡ read_span f k (suc j) (start_on s j) (span_on s j b)
   unfolding read_span
   read_step k j s b = refl
 
   -- k tokens at which nothing changes
-  skip : (k l j : ℕ) (s : Start) (b : ℕ) → ((i : ℕ) → j ≤ i → i < j + k → stirs s i ≡ false) → read_span f (k + l) j s b ≡ read_span f l (j + k) s b
+  skip : (k l j : ℕ) (s : Option Start) (b : ℕ) → ((i : ℕ) → j ≤ i → i < j + k → stirs s i ≡ false) → read_span f (k + l) j s b ≡ read_span f l (j + k) s b
   skip zero l j s b h =
       let e : 0 + l ≡ l = omega arith in
       let g : j + 0 ≡ j = omega arith in rw (e, g)
@@ -65,7 +64,7 @@ module _ (f : ℕ → Token) where
       let q : stirs s j ≡ false = h j (omega arith) (omega arith) in
       rw (e, g, read_step (k + l) j s b, quiet s j q, quiet-span s j b q) (skip k l (suc j) s b (λ i a c. h i (omega arith) (omega arith)))
 
-  module _ (n e : ℕ) (s : Start) (j m b : ℕ) (r : First (stirs s) j n m) where
+  module _ (n e : ℕ) (s : Option Start) (j m b : ℕ) (r : First (stirs s) j n m) where
     -- nothing changes before the cut
     pub stays : e ≤ m → j ≤ e → read_span f (e - j) j s b ≡ b
     stays h l =
@@ -83,7 +82,7 @@ module _ (f : ℕ → Token) where
 
   pub span-past : (t e b : ℕ) → e ≤ t → span_from f t e b ≡ b
   unfolding span_from
-  span-past t e b h = let a : e - t ≡ 0 = omega arith in rw a (read_none t start.Nowhere b)
+  span-past t e b h = let a : e - t ≡ 0 = omega arith in rw a (read_none t None b)
 
   module _ (n e b : ℕ) (l : e ≤ n) where
     -- the first top-level word from j on
@@ -92,19 +91,19 @@ module _ (f : ℕ → Token) where
     span-after j a h r =
         ⊎_elim
         (λ c.
-        moves n e start.Nowhere j a b r c
-        ∙ sym (moves n e start.Nowhere a a b (first-hit (top_at f) n a (omega arith) (r.here (omega arith))) c))
-        (λ c. stays n e start.Nowhere j a b r c h ∙ sym (span-past a e b c)) (less-or a e)
+        moves n e None j a b r c
+        ∙ sym (moves n e None a a b (first-hit (top_at f) n a (omega arith) (r.here (omega arith))) c))
+        (λ c. stays n e None j a b r c h ∙ sym (span-past a e b c)) (less-or a e)
 
     module _ (t u : ℕ) (w : top_at f t ≡ true) (q : First (top_of f (depth f t)) (t + 1) n u) (h : t < e) where
-      opened : span_from f t e b ≡ read_span f (e - (t + 1)) (t + 1) (start.At (depth f t) (size f (t + 1))) b
+      opened : span_from f t e b ≡ read_span f (e - (t + 1)) (t + 1) (Some (record { level = depth f t; span = size f (t + 1) })) b
       unfolding span_from
       opened =
           let o : First (top_at f) t n t = first-hit (top_at f) n t (omega arith) w in
-          let z : suc t ≡ t + 1 = sym (add-one t) in rw z at (rw w at (moves n e start.Nowhere t t b o h))
+          let z : suc t ≡ t + 1 = sym (add-one t) in rw z at (rw w at (moves n e None t t b o h))
 
       pub span-stuck : e ≤ u → span_from f t e b ≡ b
-      span-stuck c = opened ∙ stays n e (start.At (depth f t) (size f (t + 1))) (t + 1) u b q c (omega arith)
+      span-stuck c = opened ∙ stays n e (Some (record { level = depth f t; span = size f (t + 1) })) (t + 1) u b q c (omega arith)
 
       pub span-pair : u < e → span_from f t e b ≡ span_from f (u + 1) e (max b (size f (u + 1) - size f (t + 1)))
       unfolding span_from
@@ -113,6 +112,7 @@ module _ (f : ℕ → Token) where
           let z : suc u ≡ u + 1 = sym (add-one u) in
           let d = depth f t in
           let a = size f (t + 1) in
-          let x : start_on (start.At d a) u ≡ start.Nowhere = loud_if (is_top (part_at f u)) (eqb d (depth f u)) start.Nowhere (start.At d a) o in
-          let y : span_on (start.At d a) u b ≡ max b (size f (suc u) - a) = loud_if (is_top (part_at f u)) (eqb d (depth f u)) (max b (size f (suc u) - a)) b o in
-          let m = moves n e (start.At d a) (t + 1) u b q c in opened ∙ m ∙ rw (x, y, z)
+          let w : Option Start = Some (record { level = d; span = a }) in
+          let x : start_on w u ≡ None = loud_if (is_top (part_at f u)) (eqb d (depth f u)) None w o in
+          let y : span_on w u b ≡ max b (size f (suc u) - a) = loud_if (is_top (part_at f u)) (eqb d (depth f u)) (max b (size f (suc u) - a)) b o in
+          let m = moves n e w (t + 1) u b q c in opened ∙ m ∙ rw (x, y, z)

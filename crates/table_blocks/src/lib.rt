@@ -1,98 +1,172 @@
 // The blocks of the table: the facts of every opening bracket, each token read once. First from the left the depth before each token, then from the
 // right the rows. Row d also says where the depth d goes on: the first top-level word of that depth, and the first close that leaves it.
+// The index n stands for a token that is not there, in a row as well: one comparison with a cut then asks both.
 #![tactic(auto)]
 
-ghost use Rattle.std.specs.Prelude.{if◌then◌else◌, ◌≡◌, true, ◌+◌, ◌*◌, ◌/◌, ◌%◌, ◌≤◌, ◌<◌, max, length as length_of};
+ghost use Rattle.std.specs.Prelude.{if◌then◌else◌, ◌≡◌, true, ◌+◌, ◌*◌, ◌/◌, ◌%◌, ◌≤◌, ◌<◌, length as length_of};
 ghost use Rattle.rules.specs.Words.{token_at};
 ghost use Rattle.rules.specs.Sheet.{token_of};
-ghost use Rattle.rules.specs.InlineBlock.{part_of, is_top};
+ghost use Rattle.rules.specs.InlineBlock.{part_of};
 ghost use Rattle.rules.specs.declared.Part.TheVariants.{Top as is_atop, Close as is_aclose, Open as is_an_open};
 ghost use Rattle.around.specs.Readable.{Readable};
-ghost use Rattle.table.specs.Table.{word_of, Blocks};
+ghost use Rattle.table.specs.Table.{with_words, Blocks};
 ghost use Rattle.table_blocks.specs.Sums.{part_at, depth, size};
 ghost use Rattle.table_blocks.specs.First.{First, top_at, top_of, close_to};
 ghost use Rattle.table_blocks.specs.Spans.{span_from};
-ghost use Rattle.table_blocks.specs.Rows.{CountedFrom, Segment, Written, Rows, Stepped, Walked, EndedAt, Put, PutTwo, PutFour};
+ghost use Rattle.table_blocks.specs.Rows.{CountedFrom, Segment, step_words, top_words, top_in, counted_words, counted_in, onward_words, onward_in, Written, Rows, Stepped, Walked, EndedAt};
 
 use around::value_len;
-use blocks::{is_forbidden_token, is_newline, is_top, level_after, part_of};
+use blocks::{is_forbidden_token, is_newline, level_after, part_of};
 use rules::Part;
-use tokens::{kind_at, to_usize};
+use table::put_two;
+use tokens::kind_at;
 
-// What is counted from a token on, and the first top-level word from it on.
+// What is counted from a token on: the bytes, the newline words and the forbidden tokens. In the row of a close the bytes are those after it.
 #[derive(Clone, Copy)]
 struct Counted {
     length: u32,
-    newlines: u32,
-    forbidden: u32,
-    top: usize,
+    newlines: usize,
+    forbidden: usize,
 }
 
-// What is counted from the end of a block on.
-#[derive(Drop)]
-struct End {
-    length: u32,
-    newlines: u32,
-    forbidden: u32,
+impl Counted {
+    const NOTHING: Counted = Counted {
+        length: 0,
+        newlines: 0,
+        forbidden: 0,
+    };
 }
 
 // A part of the chain of top-level words: its longest span, its last word, and the word where the chain goes on.
-#[derive(Drop)]
+#[derive(Clone, Copy)]
 struct Step {
     best: u32,
     last: usize,
     resume: usize,
 }
 
-// ---- words
-
-fn narrow(i: usize) -> u32
-    requires { i ≤ 1024 }
-    ensures { result ≡ i }
-{
-    i as u32
+// A top-level word: the length after it, the next of its depth, the next of any, and a part of the chain from it on.
+#[derive(Clone, Copy)]
+struct Top {
+    length: u32,
+    next: usize,
+    after: usize,
+    step: Step,
 }
 
-// Two numbers in a word.
-fn pair(high: u32, low: u32) -> u32
+// Where a depth goes on, and beside that the depth before the token of this row.
+#[derive(Clone, Copy)]
+struct Onward {
+    top: usize,
+    depth: usize,
+    close: usize,
+}
+
+// ---- two numbers in a word
+
+fn pair(high: usize, low: usize) -> u32
     requires { (high ≤ 1024) × (low ≤ 1024) }
     ensures { result ≡ high * 65536 + low }
 {
-    high * 65536 + low
+    (high * 65536 + low) as u32
 }
 
-fn places(high: usize, low: usize) -> u32
-    requires { (high ≤ 1024) × (low ≤ 1024) }
-    ensures { result ≡ high * 65536 + low }
+fn halves(w: u32) -> (usize, usize)
+    ensures { (result.0 ≡ w / 65536) × (result.1 ≡ w % 65536) }
 {
-    pair(narrow(high), narrow(low))
+    ((w / 65536) as usize, (w % 65536) as usize)
 }
 
-fn high(w: u32) -> usize
-    ensures { result ≡ w / 65536 }
+// ---- the words of a row
+
+fn put_step(table: &mut [u32], t: usize, step: Step)
+    requires t_in_bounds { 6 * t + 6 ≤ length_of table.old }
+    requires few { (step.last ≤ 1024) × (step.resume ≤ 1024) }
+    ensures { table.new ≡ with_words table.old t 2 (step_words step) }
 {
-    to_usize(w / 65536)
+    put_two(table, t, 2, step.best, pair(step.last, step.resume));
 }
 
-fn low(w: u32) -> usize
-    ensures { result ≡ w % 65536 }
+#[tactic(auto, using(table::proofs::Words::more_put))]
+fn put_word(table: &mut [u32], t: usize, word: Top)
+    requires t_in_bounds { 6 * t + 6 ≤ length_of table.old }
+    requires few { (word.next ≤ 1024) × (word.after ≤ 1024) × (word.step.last ≤ 1024) × (word.step.resume ≤ 1024) }
+    ensures { table.new ≡ with_words table.old t 0 (top_words word) }
 {
-    to_usize(w % 65536)
+    put_two(table, t, 0, word.length, pair(word.next, word.after));
+    put_step(table, t, word.step);
 }
 
-fn one_if(b: bool) -> u32
-    ensures { result ≡ (if b then 1 else 0) }
+fn word_at(table: &[u32], t: usize) -> Top
+    requires { 6 * t + 6 ≤ length_of table.now }
+    ensures { result ≡ top_in table.now t }
 {
-    if b {
-        return 1;
+    let at = 6 * t;
+    let (next, after) = halves(table[at + 1]);
+    let (last, resume) = halves(table[at + 3]);
+    Top {
+        length: table[at],
+        next,
+        after,
+        step: Step {
+            best: table[at + 2],
+            last,
+            resume,
+        },
     }
-    0
 }
 
-fn longest(a: u32, b: u32) -> u32
-    ensures { result ≡ max a b }
+fn put_counted(table: &mut [u32], k: usize, counted: Counted)
+    requires k_in_bounds { 6 * k + 6 ≤ length_of table.old }
+    requires few { (counted.newlines ≤ 1024) × (counted.forbidden ≤ 1024) }
+    ensures { table.new ≡ with_words table.old k 0 (counted_words counted) }
 {
-    if a < b { b } else { a }
+    put_two(
+        table,
+        k,
+        0,
+        counted.length,
+        pair(counted.newlines, counted.forbidden),
+    );
+}
+
+fn counted_at(table: &[u32], k: usize) -> Counted
+    requires { 6 * k + 6 ≤ length_of table.now }
+    ensures { result ≡ counted_in table.now k }
+{
+    let at = 6 * k;
+    let (newlines, forbidden) = halves(table[at + 1]);
+    Counted {
+        length: table[at],
+        newlines,
+        forbidden,
+    }
+}
+
+fn put_onward(table: &mut [u32], d: usize, onward: Onward)
+    requires d_in_bounds { 6 * d + 6 ≤ length_of table.old }
+    requires few { (onward.top ≤ 1024) × (onward.depth ≤ 1024) × (onward.close ≤ 1024) }
+    ensures { table.new ≡ with_words table.old d 4 (onward_words onward) }
+{
+    put_two(
+        table,
+        d,
+        4,
+        pair(onward.top, onward.depth),
+        onward.close as u32,
+    );
+}
+
+fn onward_at(table: &[u32], d: usize) -> Onward
+    requires { 6 * d + 6 ≤ length_of table.now }
+    ensures { result ≡ onward_in table.now d }
+{
+    let (top, depth) = halves(table[6 * d + 4]);
+    Onward {
+        top,
+        depth,
+        close: table[6 * d + 5] as usize,
+    }
 }
 
 // The facts of a block.
@@ -100,31 +174,7 @@ fn facts(span: u32, forbidden: bool, reserved: bool) -> u32
     requires { span ≤ 67108864 }
     ensures { result ≡ span * 4 + (if forbidden then 2 else 0) + (if reserved then 1 else 0) }
 {
-    span * 4 + one_if(forbidden) * 2 + one_if(reserved)
-}
-
-// ---- the words of a row
-
-fn word(table: &[u32], i: usize, k: usize) -> u32
-    requires { 6 * i + k < length_of table.now }
-    ensures { result ≡ word_of table.now i k }
-{
-    table[6 * i + k]
-}
-
-fn put(table: &mut [u32], i: usize, k: usize, v: u32)
-    requires { 6 * i + k < length_of table.old }
-    ensures { Put table.old table.new i k v }
-{
-    table[6 * i + k] = v;
-}
-
-fn put_two(table: &mut [u32], i: usize, k: usize, v: u32, w: u32)
-    requires { 6 * i + (k + 1) < length_of table.old }
-    ensures { PutTwo table.old table.new i k v w }
-{
-    table[6 * i + k] = v;
-    table[6 * i + (k + 1)] = w;
+    span * 4 + u32::from(forbidden) * 2 + u32::from(reserved)
 }
 
 // ---- from the left
@@ -135,19 +185,21 @@ fn put_depths(table: &mut [u32], sheet: &[u8], base: usize, n: usize)
     requires n_in_bounds { 6 * n ≤ length_of table.old }
     ensures { Rows (token_of sheet.now base) n n table.new }
 {
-    let none = narrow(n);
     let mut level = 0;
-    let mut j = 0;
-    while j < n {
-        put_two(table, j, 4, pair(none, level), none);
+    for j in 0..n {
+        let onward = Onward {
+            top: n,
+            depth: level as usize,
+            close: n,
+        };
+        put_onward(table, j, onward);
         level = level_after(part_of(kind_at(sheet, j)), level);
-        j += 1;
     }
 }
 
 // ---- the chain of top-level words. Here the sheet only names the tokens in the contracts: no function reads it.
 
-// The step from the word t to the next of its depth, u; length is what is counted after t.
+// The step from the word t to the next of its depth, u, which may be n: then there is none. length is what is counted after t.
 fn one_step(
     table: &[u32],
     sheet: &[u8],
@@ -157,76 +209,75 @@ fn one_step(
     u: usize,
     length: u32,
 ) -> Step
-    requires written { Written (token_of sheet.now base) n u table.now }
-    requires u_lt_n { (u < n) × (length + size (token_of sheet.now base) (t + 1) ≡ size (token_of sheet.now base) n) × (top_at (token_of sheet.now base) t ≡ true) }
+    requires written { Written (token_of sheet.now base) n (t + 1) table.now }
+    requires t_len { (length + size (token_of sheet.now base) (t + 1) ≡ size (token_of sheet.now base) n) × (top_at (token_of sheet.now base) t ≡ true) }
     requires first { First (top_of (token_of sheet.now base) (depth (token_of sheet.now base) t)) (t + 1) n u }
-    ensures segment { Segment (token_of sheet.now base) n t result }
-    ensures last_value { result.last ≡ u }
+    ensures segment { u < n → Segment (token_of sheet.now base) n t result }
+    ensures last_value { (result.last ≡ u) × (result.resume ≤ n) }
 {
-    Step {
-        best: length - word(table, u, 0),
-        last: u,
-        resume: low(word(table, u, 1)),
+    if u < n {
+        let next = word_at(table, u);
+        Step {
+            best: length - next.length,
+            last: u,
+            resume: next.after,
+        }
+    } else {
+        Step {
+            best: 0,
+            last: n,
+            resume: n,
+        }
     }
 }
 
-// The segment of the word t if it ends before the cut e; else one step, if that does; else none.
-fn step_before(table: &[u32], sheet: &[u8], base: usize, n: usize, t: usize, e: usize) -> Step
+// The part of the chain that the row of the word t has, if it ends before the cut e; else one step, if that does; else none.
+fn step_before(
+    table: &[u32],
+    sheet: &[u8],
+    base: usize,
+    n: usize,
+    t: usize,
+    e: usize,
+) -> Option<Step>
     requires written { Written (token_of sheet.now base) n t table.now }
     requires t_lt_e { (t < e) × (e ≤ n) × (top_at (token_of sheet.now base) t ≡ true) }
     ensures { Stepped (token_of sheet.now base) n t e result }
 {
-    let w = word(table, t, 3);
-    let last = high(w);
-    if last < e {
-        return Step {
-            best: word(table, t, 2),
-            last,
-            resume: low(w),
-        };
-    }
-    let u = high(word(table, t, 1));
-    if u < e {
-        return one_step(table, sheet, base, n, t, u, word(table, t, 0));
-    }
-    Step {
-        best: 0,
-        last: e,
-        resume: t,
+    let word = word_at(table, t);
+    if word.step.last < e {
+        Some(word.step)
+    } else if word.next < e {
+        Some(one_step(table, sheet, base, n, t, word.next, word.length))
+    } else {
+        None
     }
 }
 
-// From the word t to the cut e; no step was taken if the last word is e. No two words go on at the same one, and a block lies in its outer block
-// or behind it: so all walks together take each word about once.
-fn walk(table: &[u32], sheet: &[u8], base: usize, n: usize, t: usize, e: usize) -> Step
+// From the word t to the cut e. No two words go on at the same one, and a block lies in its outer block or behind it: so all walks together take
+// each word about once.
+fn walk(table: &[u32], sheet: &[u8], base: usize, n: usize, t: usize, e: usize) -> Option<Step>
     requires written { Written (token_of sheet.now base) n t table.now }
     requires e_le_n { (e ≤ n) × First (top_at (token_of sheet.now base)) t n t }
     ensures { Walked (token_of sheet.now base) n t e result }
 {
-    let mut best = 0;
-    let mut last = e;
-    let mut at = t;
-    while at < e {
-        let step = step_before(table, sheet, base, n, at, e);
-        if e <= step.last {
-            return Step {
-                best,
-                last,
-                resume: at,
-            };
-        }
-        best = longest(best, step.best);
-        last = step.last;
-        at = step.resume;
+    if e <= t {
+        return None;
     }
-    Step {
-        best,
-        last,
-        resume: at,
+    let mut walked = step_before(table, sheet, base, n, t, e)?;
+    while walked.resume < e {
+        let Some(step) = step_before(table, sheet, base, n, walked.resume, e) else {
+            break;
+        };
+        walked = Step {
+            best: walked.best.max(step.best),
+            ..step
+        };
     }
+    Some(walked)
 }
 
-// The longest span from the first word t on before the cut e. What was walked is t's segment from now on: a block around this one, that starts at
+// The longest span from the first word t on before the cut e. What was walked is in t's row from now on: a block around this one, that starts at
 // the same word, does not walk it again.
 fn span_before(
     table: &mut [u32],
@@ -242,70 +293,42 @@ fn span_before(
     ensures rows_2 { Rows (token_of sheet.now base) n j table.new }
     ensures value { (result ≡ span_from (token_of sheet.now base) j e 0) × (result ≤ 67108864) }
 {
-    let w = walk(table, sheet, base, n, t, e);
-    let last = w.last;
-    let resume = w.resume;
-    if last < e {
-        put_two(table, t, 2, w.best, places(last, resume));
-        return w.best;
-    }
-    w.best
+    let Some(walked) = walk(table, sheet, base, n, t, e) else {
+        return 0;
+    };
+    put_step(table, t, walked);
+    walked.best
 }
 
 // ---- the rows, from the right
 
-// The step from the word t, if there is a next of its depth.
-fn first_step(
-    table: &[u32],
+// The row of a top-level word t; length is counted after it, and top is the next such word.
+fn put_top(
+    table: &mut [u32],
     sheet: &[u8],
     base: usize,
     n: usize,
     t: usize,
-    u: usize,
     length: u32,
-) -> Step
-    requires written { Written (token_of sheet.now base) n (t + 1) table.now }
-    requires t_len { (length + size (token_of sheet.now base) (t + 1) ≡ size (token_of sheet.now base) n) × (top_at (token_of sheet.now base) t ≡ true) }
-    requires first { First (top_of (token_of sheet.now base) (depth (token_of sheet.now base) t)) (t + 1) n u }
-    ensures segment { result.last < n → Segment (token_of sheet.now base) n t result }
-    ensures last_le_n { (result.last ≤ n) × (result.resume ≤ n) }
-{
-    if u < n {
-        return one_step(table, sheet, base, n, t, u, length);
-    }
-    Step {
-        best: 0,
-        last: n,
-        resume: n,
-    }
-}
-
-// u is the next word of the depth of t, and top the next of any.
-fn put_chain(table: &mut [u32], t: usize, length: u32, u: usize, top: usize, step: Step)
-    requires t_in_bounds { 6 * t + 3 < length_of table.old }
-    requires u_bound { (u ≤ 1024) × (top ≤ 1024) × (step.last ≤ 1024) × (step.resume ≤ 1024) }
-    ensures { PutFour table.old table.new t length (u * 65536 + top) step.best (step.last * 65536 + step.resume) }
-{
-    let last = step.last;
-    let resume = step.resume;
-    put_two(table, t, 0, length, places(u, top));
-    put_two(table, t, 2, step.best, places(last, resume));
-}
-
-// The row of a top-level word t; s is counted after it.
-fn put_top(table: &mut [u32], sheet: &[u8], base: usize, n: usize, t: usize, s: Counted)
+    top: usize,
+)
     requires rows { Rows (token_of sheet.now base) n (t + 1) table.old }
-    requires t_lt_n { (t < n) × CountedFrom (token_of sheet.now base) n (t + 1) s }
+    requires t_lt_n { (t < n) × (length + size (token_of sheet.now base) (t + 1) ≡ size (token_of sheet.now base) n) × First (top_at (token_of sheet.now base)) (t + 1) n top }
     requires t_value { part_at (token_of sheet.now base) t ≡ is_atop }
     ensures { Rows (token_of sheet.now base) n t table.new }
 {
-    let d = low(word(table, t, 4));
-    let level = word(table, d, 4);
-    let u = high(level);
-    let top = s.top;
-    let step = first_step(table, sheet, base, n, t, u, s.length);
-    put_chain(table, t, s.length, u, top, step);
-    put(table, d, 4, pair(narrow(t), level % 65536));
+    let depth = onward_at(table, t).depth;
+    let onward = onward_at(table, depth);
+    let next = onward.top;
+    let step = one_step(table, sheet, base, n, t, next, length);
+    let word = Top {
+        length,
+        next,
+        after: top,
+        step,
+    };
+    put_word(table, t, word);
+    put_onward(table, depth, Onward { top: t, ..onward });
 }
 
 // The row of a close k; length is counted after it, and s from it on.
@@ -323,31 +346,24 @@ fn put_close(
     requires k_value { part_at (token_of sheet.now base) k ≡ is_aclose }
     ensures { Rows (token_of sheet.now base) n k table.new }
 {
-    let d = low(word(table, k, 4));
-    put_two(table, k, 0, length, pair(s.newlines, s.forbidden));
-    if 0 < d {
-        put(table, d - 1, 5, narrow(k));
+    let depth = onward_at(table, k).depth;
+    put_counted(table, k, Counted { length, ..s });
+    if 0 < depth {
+        let onward = onward_at(table, depth - 1);
+        put_onward(table, depth - 1, Onward { close: k, ..onward });
     }
 }
 
 // What is counted from the end of a block on, m being its close: that is measured, and not tested for `;`.
-fn end_at(table: &[u32], sheet: &[u8], base: usize, n: usize, d: usize, m: usize) -> End
+fn end_at(table: &[u32], sheet: &[u8], base: usize, n: usize, d: usize, m: usize) -> Counted
     requires written { Written (token_of sheet.now base) n m table.now }
     requires first { First (close_to (token_of sheet.now base) d) m n m }
     ensures { EndedAt (token_of sheet.now base) n m result }
 {
     if m < n {
-        let w = word(table, m, 1);
-        return End {
-            length: word(table, m, 0),
-            newlines: w / 65536,
-            forbidden: w % 65536,
-        };
-    }
-    End {
-        length: 0,
-        newlines: 0,
-        forbidden: 0,
+        counted_at(table, m)
+    } else {
+        Counted::NOTHING
     }
 }
 
@@ -366,24 +382,15 @@ fn put_open(
     requires i_value { part_at (token_of sheet.now base) i ≡ is_an_open }
     ensures { Rows (token_of sheet.now base) n i table.new }
 {
-    let d = low(word(table, i, 4));
-    let m = to_usize(word(table, d, 5));
-    let end = end_at(table, sheet, base, n, d, m);
-    let span = span_before(table, sheet, base, n, i + 1, top, m);
-    let word = facts(span, end.forbidden < s.forbidden, end.newlines < s.newlines);
-    put_two(table, i, 0, s.length - end.length, word);
+    let depth = onward_at(table, i).depth;
+    let close = onward_at(table, depth).close;
+    let end = end_at(table, sheet, base, n, depth, close);
+    let span = span_before(table, sheet, base, n, i + 1, top, close);
+    let facts = facts(span, end.forbidden < s.forbidden, end.newlines < s.newlines);
+    put_two(table, i, 0, s.length - end.length, facts);
 }
 
 // ---- all tokens
-
-fn first_top(part: Part, j: usize, top: usize) -> usize
-    ensures { result ≡ (if is_top part then j else top) }
-{
-    if is_top(part) {
-        return j;
-    }
-    top
-}
 
 // s is counted after token j.
 fn count_in(sheet: &[u8], base: usize, n: usize, j: usize, part: Part, s: Counted) -> Counted
@@ -392,43 +399,10 @@ fn count_in(sheet: &[u8], base: usize, n: usize, j: usize, part: Part, s: Counte
     requires part_value { part ≡ part_of (token_at sheet.now j).kind }
     ensures { CountedFrom (token_of sheet.now base) n j result }
 {
-    let top = s.top;
-    let length = value_len(sheet, base, j);
-    let newline = one_if(is_newline(part));
-    let forbidden = one_if(is_forbidden_token(sheet, base, j, part));
     Counted {
-        length: s.length + length,
-        newlines: s.newlines + newline,
-        forbidden: s.forbidden + forbidden,
-        top: first_top(part, j, top),
-    }
-}
-
-fn put_row(table: &mut [u32], sheet: &[u8], base: usize, n: usize, j: usize, s: Counted) -> Counted
-    requires readable { Readable sheet.now base n }
-    requires rows { Rows (token_of sheet.now base) n (j + 1) table.old }
-    requires j_lt_n { (j < n) × CountedFrom (token_of sheet.now base) n (j + 1) s }
-    ensures rows_2 { Rows (token_of sheet.now base) n j table.new }
-    ensures counted_from { CountedFrom (token_of sheet.now base) n j result }
-{
-    let part = part_of(kind_at(sheet, j));
-    let r = count_in(sheet, base, n, j, part, s);
-    match part {
-        Part::Top => {
-            put_top(table, sheet, base, n, j, s);
-            r
-        }
-        Part::Close => {
-            put_close(table, sheet, base, n, j, s.length, r);
-            r
-        }
-        Part::Open => {
-            put_open(table, sheet, base, n, j, s.top, r);
-            r
-        }
-        Part::Newline => r,
-        Part::Comment => r,
-        Part::Rest => r,
+        length: s.length + value_len(sheet, base, j),
+        newlines: s.newlines + usize::from(is_newline(part)),
+        forbidden: s.forbidden + usize::from(is_forbidden_token(sheet, base, j, part)),
     }
 }
 
@@ -439,15 +413,20 @@ pub fn fill(table: &mut [u32], sheet: &[u8], base: usize, n: usize)
     ensures blocks { Blocks sheet.now base n table.new }
 {
     put_depths(table, sheet, base, n);
-    let mut s = Counted {
-        length: 0,
-        newlines: 0,
-        forbidden: 0,
-        top: n,
-    };
-    let mut j = n;
-    while 0 < j {
-        s = put_row(table, sheet, base, n, j - 1, s);
-        j -= 1;
+    let mut counted = Counted::NOTHING;
+    let mut top = n;
+    for j in (0..n).rev() {
+        let part = part_of(kind_at(sheet, j));
+        let after = counted;
+        counted = count_in(sheet, base, n, j, part, after);
+        match part {
+            Part::Top => {
+                put_top(table, sheet, base, n, j, after.length, top);
+                top = j;
+            }
+            Part::Close => put_close(table, sheet, base, n, j, after.length, counted),
+            Part::Open => put_open(table, sheet, base, n, j, top, counted),
+            Part::Newline | Part::Comment | Part::Rest => {}
+        }
     }
 }

@@ -1,18 +1,18 @@
 -- A row that is written is there, and the others are as they were; and it is read as it was written. Assumes nothing.
 use mathlib.Core.Bool.{Bool, true, false}
 use mathlib.Core.Path.{◌≡◌, refl, ap, ◌∙◌}
-use mathlib.Core.List.{List, [], ◌∷◌}
-use Prim.Native.Nat.{ℕ, zero, suc, ◌+◌, ◌-◌, ◌*◌, ◌/◌, ◌%◌, ◌≤◌, ◌<◌}
+use mathlib.Core.List.{List, [], ◌∷◌, ◌++◌}
+use Prim.Native.Nat.{ℕ, ◌+◌, ◌-◌, ◌*◌, ◌/◌, ◌%◌, ◌≤◌, ◌<◌}
 use native.Mathlib.Omega.{arith}
-use lib.Dec.{eqb, ltb}
-use lib.ListN.{length, get_or, set, length-set}
-use lib.Seq.{sets, get_or-set_same, get_or-set_other}
-use borrow.Author.Tests.{eq-eqb, ne_eqb, eqb-true, eqb-false, ltb-true, ltb-false}
-use Rattle.table.specs.Table.{word_of}
+use lib.Dec.{eqb}
+use lib.ListN.{length}
+use borrow.Author.Tests.{eqb-true, eqb-false}
+use Rattle.table.specs.Table.{word_of, with_words}
+use Rattle.table.proofs.Words.{Put, put_is, more_put}
 use Rattle.table_spans.specs.declared.Rest.{Rest}
 use Rattle.table_spans.specs.declared.Rests.{Rests}
-use Rattle.table_spans.specs.Back.{bit_of, ended, Few, FewRests}
-use Rattle.table_spans.specs.Rows.{counts_of, marks_of, row_words, Holds, with_row, rest_in, row_in, past_in}
+use Rattle.table_spans.specs.Back.{bit_of, Few, FewRests}
+use Rattle.table_spans.specs.Rows.{counts_of, marks_of, row_words, Holds, with_row, rest_in, row_in}
 
 pub above : (x y : ℕ) → x ≤ y → (y ≡ x → ⊥) → x + 1 ≤ y
 above x y h n = by-eq (eqb y x) refl
@@ -21,60 +21,37 @@ above x y h n = by-eq (eqb y x) refl
     by-eq true e = absurd (n (eqb-true y x e))
     by-eq false e = omega (arith, eqb-false y x e)
 
--- ---- a run of stores
-
-sets_before : (vs l : List ℕ) (i j : ℕ) → j < i → get_or (sets l i vs) j 0 ≡ get_or l j 0
-sets_before [] l i j h = refl
-sets_before (a ∷ vs) l i j h = sets_before vs (set l i a) (suc i) j (omega arith) ∙ get_or-set_other l i j a 0 (λ e. omega arith)
-
-sets_after : (vs l : List ℕ) (i j : ℕ) → i + length vs ≤ j → get_or (sets l i vs) j 0 ≡ get_or l j 0
-sets_after [] l i j h = refl
-sets_after (a ∷ vs) l i j h = sets_after vs (set l i a) (suc i) j (omega arith) ∙ get_or-set_other l i j a 0 (λ e. omega arith)
-
-sets_at : (vs l : List ℕ) (i k : ℕ) → k < length vs → i + length vs ≤ length l → get_or (sets l i vs) (i + k) 0 ≡ get_or vs k 0
-sets_at [] l i k h r = absurd (omega arith)
-sets_at (a ∷ vs) l i zero h r =
-    let e : i + 0 ≡ i = omega arith in
-    ap (λ (j : ℕ). get_or (sets (set l i a) (suc i) vs) j 0) e ∙ sets_before vs (set l i a) (suc i) i (omega arith) ∙ get_or-set_same l i a 0 (omega arith)
-sets_at (a ∷ vs) l i (suc k) h r =
-    let e : i + suc k ≡ suc i + k = omega arith in
-    let m = length-set l i a in
-    ap (λ (j : ℕ). get_or (sets (set l i a) (suc i) vs) j 0) e ∙ sets_at vs (set l i a) (suc i) k (omega arith) (omega arith)
-
 -- ---- a row, written
 
-pub row_put : (t : List ℕ) (i : ℕ) (f : Rests) (a b m : ℕ) → a ≡ counts_of f.inner → b ≡ counts_of f.outer → m ≡ marks_of f
-    → set (set (set (set (set (set t (6 * i) f.inner.full) (6 * i + 1) a) (6 * i + 2) f.outer.full) (6 * i + 3) b) (6 * i + 4) f.total) (6 * i + 5) m ≡ with_row t i f
+pub row_put : (t u v : List ℕ) (i : ℕ) (f : Rests) (a b c : ℕ) → u ≡ with_words t i 0 (f.inner.full ∷ a ∷ []) → v ≡ with_words u i 2 (f.outer.full ∷ b ∷ []) → a ≡ counts_of f.inner → b ≡ counts_of f.outer → c ≡ marks_of f
+    → with_words v i 4 (f.total ∷ c ∷ []) ≡ with_row t i f
 unfolding with_row
-row_put t i f a b m p q r =
-    let e₁ : 6 * i + 1 ≡ suc (6 * i) = omega arith in
-    let e₂ : 6 * i + 2 ≡ suc (suc (6 * i)) = omega arith in
-    let e₃ : 6 * i + 3 ≡ suc (suc (suc (6 * i))) = omega arith in
-    let e₄ : 6 * i + 4 ≡ suc (suc (suc (suc (6 * i)))) = omega arith in
-    let e₅ : 6 * i + 5 ≡ suc (suc (suc (suc (suc (6 * i))))) = omega arith in rw (e₁, e₂, e₃, e₄, e₅, p, q, r)
+row_put t u v i f a b c eu ev ea eb ec =
+    let x : List ℕ = f.inner.full ∷ counts_of f.inner ∷ [] in
+    let y : List ℕ = f.outer.full ∷ counts_of f.outer ∷ [] in
+    rw (ev, eu, ea, eb, ec)
+    (ap (λ (w : List ℕ). with_words w i 4 (f.total ∷ marks_of f ∷ [])) (more_put t i 0 2 x y refl)
+    ∙ more_put t i 0 4 (x ++ y) (f.total ∷ marks_of f ∷ []) refl)
 
 module _ (t : List ℕ) (i : ℕ) (f : Rests) where
-  pub row-holds : 6 * i + 6 ≤ length t → Holds (with_row t i f) i f
+  put : Put t (with_row t i f) i 0 (row_words f)
   unfolding with_row
+  put = put_is t (with_words t i 0 (row_words f)) i 0 (row_words f) refl
+
+  pub row-holds : 6 * i + 6 ≤ length t → Holds (with_row t i f) i f
   row-holds r =
+      let here = put.here (omega arith) in
       record {
-        inner_full = sets_at (row_words f) t (6 * i) 0 (omega arith) r;
-        inner_counts = sets_at (row_words f) t (6 * i) 1 (omega arith) r;
-        outer_full = sets_at (row_words f) t (6 * i) 2 (omega arith) r;
-        outer_counts = sets_at (row_words f) t (6 * i) 3 (omega arith) r;
-        total = sets_at (row_words f) t (6 * i) 4 (omega arith) r;
-        marks = sets_at (row_words f) t (6 * i) 5 (omega arith) r;
+        inner_full = here 0 0 refl (omega arith);
+        inner_counts = here 1 1 refl (omega arith);
+        outer_full = here 2 2 refl (omega arith);
+        outer_counts = here 3 3 refl (omega arith);
+        total = here 4 4 refl (omega arith);
+        marks = here 5 5 refl (omega arith);
       }
 
   pub row_other : (k j : ℕ) → (k ≡ i → ⊥) → j < 6 → word_of (with_row t i f) k j ≡ word_of t k j
-  unfolding with_row
-  row_other k j n h = by-test (ltb k i) refl
-    where
-      by-test : (b : Bool) → ltb k i ≡ b → word_of (sets t (6 * i) (row_words f)) k j ≡ word_of t k j
-      by-test true e = let l : k < i = ltb-true k i e in sets_before (row_words f) t (6 * i) (6 * k + j) (omega arith)
-      by-test false e =
-          let l : i ≤ k = ltb-false k i e in
-          let m = above i k l n in sets_after (row_words f) t (6 * i) (6 * k + j) (omega arith)
+  row_other k j n h = put.others (6 * k + j) (λ l. let m = above i k (omega arith) n in omega arith)
 
   pub held-still : (k : ℕ) (g : Rests) → (k ≡ i → ⊥) → Holds t k g → Holds (with_row t i f) k g
   held-still k g n h =
@@ -122,19 +99,3 @@ row_back t i f s h =
   where
     by-fields : (g k : Rests) → g.inner ≡ k.inner → g.outer ≡ k.outer → g.total ≡ k.total → g.others ≡ k.others → g.close ≡ k.close → g ≡ k
     by-fields g k a b c d e = rw (a, b, c, d, e)
-
-pub row_as : (t : List ℕ) (i : ℕ) (u v : Rest) (close : ℕ) → u ≡ rest_in (get_or t (6 * i) 0) (word_of t i 1) (word_of t i 5 / 4096 % 2) → v ≡ rest_in (word_of t i 2) (word_of t i 3) (word_of t i 5 / 2048 % 2)
-    → close ≡ word_of t i 5 % 2048
-    → record { inner = u; outer = v; total = word_of t i 4; others = word_of t i 5 / 8192; close = close } ≡ row_in t i
-unfolding row_in
-row_as t i u v close p q e = let z : 6 * i ≡ 6 * i + 0 = omega arith in rw (p, q, e) (ap (λ (k : ℕ). record { inner = rest_in (get_or t k 0) (word_of t i 1) (word_of t i 5 / 4096 % 2); outer = rest_in (word_of t i 2) (word_of t i 3) (word_of t i 5 / 2048 % 2); total = word_of t i 4; others = word_of t i 5 / 8192; close = word_of t i 5 % 2048 }) z)
-
--- ---- after the close
-
-pub past_end : (t : List ℕ) (n close : ℕ) (r : Rests) → close ≡ n → r ≡ ended n → r ≡ past_in t n close
-unfolding past_in
-past_end t n close r e h = rw (eq-eqb close n e) h
-
-pub past_row : (t : List ℕ) (n close : ℕ) (r : Rests) → (close ≡ n → ⊥) → r ≡ row_in t close → r ≡ past_in t n close
-unfolding past_in
-past_row t n close r e h = rw (ne_eqb close n e) h

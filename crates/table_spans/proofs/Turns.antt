@@ -1,6 +1,7 @@
 -- A token of the pass, over plain variables. Assumes nothing.
 use mathlib.Core.Bool.{Bool, true, false}
 use mathlib.Core.Path.{◌≡◌, refl, sym, ap, ◌∙◌}
+use mathlib.Core.Logic.{◌⊎◌, ⊎_elim}
 use mathlib.Core.List.{List}
 use Prim.Native.Nat.{ℕ, zero, suc, ◌+◌, ◌-◌, ◌*◌, ◌≤◌, ◌<◌}
 use native.Mathlib.Omega.{arith}
@@ -189,45 +190,53 @@ past-reads s base n i t f p q h r d e = by-eq (eqb f.close n) refl
 
 -- ---- one token: x is its sort, and len its length
 
-module _ (s : List ℕ) (base n i : ℕ) (t : List ℕ) (f : Rests) (q : Readable s base n) (h : i < n) (d : ReadFrom 0 s base n (i + 1) f) where
-  module _ (r : Rows s base n (i + 1) t) where
-    -- what a turn gives: v, and the table as it is now
-    abbrev Given : Rests → List ℕ → Type 0
-    Given v u = ReadFrom 0 s base n i v × (Rows s base n i u × SameBlocks s base n t u)
+pub saved : (x : Sort) → (x ≡ sort.Head) ⊎ (x ≡ sort.Close) → (opens_in x ≡ false) × (saves_in x ≡ true)
+saved x = ⊎_elim (λ e. rw e (refl, refl)) (λ e. rw e (refl, refl))
 
-    module _ (p : Rests) (e : p ≡ past_in t n f.close) where
-      past_is : ReadFrom 0 s base n (f.close + 1) p
-      past_is = past-reads s base n i t f p q h r d e
+pub unsaved : (x : Sort) → (x ≡ sort.White) ⊎ ((x ≡ sort.Semicolon) ⊎ ((x ≡ sort.Comma) ⊎ (x ≡ sort.Other))) → (opens_in x ≡ false) × (saves_in x ≡ false)
+unsaved x = ⊎_elim (λ e. rw e (refl, refl)) (⊎_elim (λ e. rw e (refl, refl)) (⊎_elim (λ e. rw e (refl, refl)) (λ e. rw e (refl, refl))))
 
-      pub past-few : FewRests p
-      past-few = few-read 0 s base n (f.close + 1) p q past_is
+module _ (s : List ℕ) (base n i : ℕ) (t : List ℕ) (f : Rests) (q : Readable s base n) (h : i < n) (d : ReadFrom 0 s base n (i + 1) f) (r : Rows s base n (i + 1) t) where
+  -- what a turn gives: v, and the table as it is now
+  abbrev Given : Rests → List ℕ → Type 0
+  Given v u = record { read_from_2 : ReadFrom 0 s base n i v; rows_2 : Rows s base n i u; same_blocks : SameBlocks s base n t u }
 
-      pub past-less : p.total ≤ f.total
-      past-less = through_less s base n (i + 1) f p d past_is
+  module _ (p : Rests) (e : p ≡ past_in t n f.close) where
+    past_is : ReadFrom 0 s base n (f.close + 1) p
+    past_is = past-reads s base n i t f p q h r d e
 
-      module _ (g : Rests) (k : g ≡ through_in f p) where
-        through_is : ReadFrom 1 s base n (i + 1) g
-        through_is = rw k (through_reads s base n (i + 1) f p d past_is)
+    pub past-room : record { few_rests : FewRests f; few_rests_2 : FewRests p; total_le_total : p.total ≤ f.total }
+    past-room = record {
+      few_rests = few-read 0 s base n (i + 1) f q d;
+      few_rests_2 = few-read 0 s base n (f.close + 1) p q past_is;
+      total_le_total = through_less s base n (i + 1) f p d past_is;
+    }
 
-        pub through_few : FewRests g
-        through_few = few-read 1 s base n (i + 1) g q through_is
+    module _ (g : Rests) (k : g ≡ through_in f p) where
+      through_is : ReadFrom 1 s base n (i + 1) g
+      through_is = rw k (through_reads s base n (i + 1) f p d past_is)
 
-        module _ (x : Sort) (len : ℕ) (o : Bool) (v : Rests) (is : x ≡ sort_in (token_of s base i)) (m : len ≡ length (token_of s base i).value) (ho : o ≡ opens_in x) where
-          pub turn_open : o ≡ true → v ≡ front_in x len i g → Given v t
-          turn_open a w =
-              let y : opens_in x ≡ true = sym ho ∙ a in
-              (rw w (front-open s base n i h x len is m g y through_is), (rows-open s base n i t x is r y, same_blocks s base n t))
+      pub through_few : FewRests g
+      through_few = few-read 1 s base n (i + 1) g q through_is
 
-    module _ (x : Sort) (len : ℕ) (o : Bool) (v : Rests) (is : x ≡ sort_in (token_of s base i)) (m : len ≡ length (token_of s base i).value) (ho : o ≡ opens_in x) where
-      module _ (z : Bool) (hz : z ≡ saves_in x) (a : o ≡ false) (w : v ≡ front_in x len i f) where
-        own-reads : ReadFrom 0 s base n i v
-        own-reads = rw w (front-own s base n i h x len is m f (sym ho ∙ a) d)
+      pub turn_open : (x : Sort) (len : ℕ) (v : Rests) → x ≡ sort_in (token_of s base i) → len ≡ length (token_of s base i).value → x ≡ sort.Open → v ≡ front_in x len i g → Given v t
+      turn_open x len v is m a w =
+          let o : opens_in x ≡ true = rw a refl in
+          record { read_from_2 = rw w (front-open s base n i h x len is m g o through_is); rows_2 = rows-open s base n i t x is r o; same_blocks = same_blocks s base n t }
 
-        pub turn_saved : (u : List ℕ) → z ≡ true → 6 * n ≤ length t → u ≡ with_row t i f → Given v u
-        turn_saved u b l c = rw c (own-reads, (rows-put s base n i t x is r f (omega arith) d, same-put s base n i t x f is (sym hz ∙ b)))
+  module _ (x : Sort) (len : ℕ) (v : Rests) (is : x ≡ sort_in (token_of s base i)) (m : len ≡ length (token_of s base i).value) (w : v ≡ front_in x len i f) where
+    own-reads : opens_in x ≡ false → ReadFrom 0 s base n i v
+    own-reads o = rw w (front-own s base n i h x len is m f o d)
 
-        pub turn_unsaved : z ≡ false → Given v t
-        turn_unsaved b = (own-reads, (rows-unsaved s base n i t x is r (sym hz ∙ b), same_blocks s base n t))
+    pub turn_saved : (u : List ℕ) → (x ≡ sort.Head) ⊎ (x ≡ sort.Close) → 6 * n ≤ length t → u ≡ with_row t i f → Given v u
+    turn_saved u b l c =
+        let o = saved x b in
+        rw c (record { read_from_2 = own-reads o.0; rows_2 = rows-put s base n i t x is r f (omega arith) d; same_blocks = same-put s base n i t x f is o.1 })
+
+    pub turn_unsaved : (x ≡ sort.White) ⊎ ((x ≡ sort.Semicolon) ⊎ ((x ≡ sort.Comma) ⊎ (x ≡ sort.Other))) → Given v t
+    turn_unsaved b =
+        let o = unsaved x b in
+        record { read_from_2 = own-reads o.0; rows_2 = rows-unsaved s base n i t x is r o.1; same_blocks = same_blocks s base n t }
 
 -- ---- the whole table
 
@@ -266,21 +275,5 @@ filling_starts s base n t f e =
       same = same_blocks s base n t;
     }
 
-pub filling_turns : (s : List ℕ) (base n : ℕ) (t₀ t u : List ℕ) (f g : Rests) (i : ℕ) → 0 < i → Filling s base n t₀ t f i → length u ≡ length t → ReadFrom 0 s base n (i - 1) g → Rows s base n (i - 1) u → SameBlocks s base n t u → Filling s base n t₀ u g (i - 1)
-filling_turns s base n t₀ t u f g i h w l a b c = let m = w.up_to in record { up_to = omega arith; long = l ∙ w.long; read = a; rows = b; same = same-on s base n t₀ t u w.same c }
-
 pub filling_ends : (s : List ℕ) (base n : ℕ) (t₀ t : List ℕ) (f : Rests) (i : ℕ) → Filling s base n t₀ t f i → i ≤ 0 → Spans s base n t
 filling_ends s base n t₀ t f i w h = let e : i ≡ 0 = omega arith in all-spans s base n t (rw e at w.rows)
-
-module _ (s : List ℕ) (base n : ℕ) (t₀ t : List ℕ) (f : Rests) (i : ℕ) (w : Filling s base n t₀ t f i) (h : 0 < i) where
-  back-again : i - 1 + 1 ≡ i
-  back-again = omega arith
-
-  pub filling_room : 6 * n ≤ length t₀ → (i - 1 < n) × (6 * n ≤ length t)
-  filling_room l = let m = w.up_to in let k = w.long in (omega arith, omega arith)
-
-  pub filling_read : ReadFrom 0 s base n (i - 1 + 1) f
-  filling_read = rw back-again w.read
-
-  pub filling_rows : Rows s base n (i - 1 + 1) t
-  filling_rows = rw back-again w.rows

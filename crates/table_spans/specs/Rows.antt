@@ -1,7 +1,6 @@
 -- The row of a token: what is read after it, in six words.
 use Rattle.std.specs.Prelude.{if◌then◌else◌, ◌≡◌, List, [], ◌∷◌, ℕ, ◌+◌, ◌-◌, ◌*◌, ◌/◌, ◌%◌, eqb}
-use Rattle.std.proofs.lemmas.List.Edits.{sets}
-use Rattle.table.specs.Table.{word_of}
+use Rattle.table.specs.Table.{word_of, with_words}
 use Rattle.table_spans.specs.declared.Rest.{Rest}
 use Rattle.table_spans.specs.declared.Rests.{Rests}
 use Rattle.table_spans.specs.Back.{bit_of, ended}
@@ -29,7 +28,7 @@ row_words f = f.inner.full ∷ counts_of f.inner ∷ f.outer.full ∷ counts_of 
 
 -- written
 unfoldable pub with_row : List ℕ → ℕ → Rests → List ℕ
-with_row t i f = sets t (6 * i) (row_words f)
+with_row t i f = with_words t i 0 (row_words f)
 
 -- and read
 abbrev pub rest_in : ℕ → ℕ → ℕ → Rest

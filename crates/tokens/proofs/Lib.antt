@@ -1,3 +1,1 @@
 pub mod PackedLaws
-pub mod Match
-pub mod Build

@@ -1,5 +1,5 @@
 -- What a reader of tokens asks of a sheet: each token's record in the file, its value and its name in the bodies.
-use Rattle.std.specs.Prelude.{◌≡◌, List, ℕ, ◌+◌, ◌*◌, ◌≤◌, ◌<◌, length}
+use Rattle.std.specs.Prelude.{◌≡◌, List, ℕ, ◌+◌, ◌*◌, ◌≤◌, ◌<◌, length, Some}
 use Rattle.rules.specs.declared.Place.{Place}
 use Rattle.rules.specs.declared.PlaceholderKind.TheVariants as key
 use Rattle.rules.specs.Words.{tokens_at, token_at}
@@ -12,7 +12,7 @@ pub record Inside (s : List ℕ) (base : ℕ) (p : Place) : Type 0 where
 pub record Within (s : List ℕ) (base i : ℕ) : Type 0 where
   pub record_in : tokens_at + 20 * i + 20 ≤ length s
   pub value_in : Inside s base (token_at s i).value
-  pub name_in : (p : Place) → (token_at s i).key ≡ key.Named p → Inside s base p
+  pub name_in : (p : Place) → (token_at s i).key ≡ Some (key.Named p) → Inside s base p
 
 -- so for all n
 pub record Placed (s : List ℕ) (base n : ℕ) : Type 0 where

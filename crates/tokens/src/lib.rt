@@ -5,14 +5,7 @@ ghost use Rattle.std.specs.Prelude.{◌≡◌, ◌+◌, ◌*◌, ◌≤◌, ◌<
 ghost use Rattle.rules.specs.Tokens.{from_one};
 ghost use Rattle.rules.specs.Words.{word_at, place_at, kind_bits, class_bits, create_bit, upper_bits, packed_of, kind_of, key_of, tokens_at, token_at};
 
-use rules::{Index, OneIndexed, Place, PlaceholderKind, Token, TokenKind, ZeroIndexed};
-
-// A byte as a word; as a function of its own it brings its bound along.
-fn wide(b: u8) -> u32
-    ensures { (result ≡ b) × (result < 256) }
-{
-    b as u32
-}
+use rules::{OneIndexed, Place, PlaceholderKind, Token, TokenKind, ZeroIndexed};
 
 // A word as an offset or a length.
 pub fn to_usize(w: u32) -> usize
@@ -21,13 +14,15 @@ pub fn to_usize(w: u32) -> usize
     w as usize
 }
 
+#[tactic(auto, unfolding(rules::specs::Words::word_at))]
 pub fn word_at(s: &[u8], at: usize) -> u32
     requires { at + 4 ≤ length s.now }
     ensures { result ≡ word_at s.now at }
 {
-    wide(s[at]) + wide(s[at + 1]) * 256 + wide(s[at + 2]) * 65536 + wide(s[at + 3]) * 16777216
+    u32::from_le_bytes([s[at], s[at + 1], s[at + 2], s[at + 3]])
 }
 
+#[tactic(auto, unfolding(rules::specs::Words::place_at))]
 pub fn place_at(s: &[u8], at: usize) -> Place
     requires { at + 8 ≤ length s.now }
     ensures { result ≡ place_at s.now at }
@@ -73,6 +68,8 @@ pub fn packed(kind: u32, class: u32, create: bool) -> u32
 
 // ---- kinds and keys
 
+// A match and no TryFrom: every number has a kind, Join from 16 on.
+#[tactic(auto, unfolding(rules::specs::Words::kind_of, rules::specs::Words::kinds))]
 pub fn kind_of(n: u32) -> TokenKind
     ensures { result ≡ kind_of n }
 {
@@ -97,31 +94,28 @@ pub fn kind_of(n: u32) -> TokenKind
     }
 }
 
-pub fn key_of(class: u32, a: u32, b: u32) -> PlaceholderKind
+#[tactic(auto, unfolding(rules::specs::Words::key_of))]
+pub fn key_of(class: u32, a: u32, b: u32) -> Option<PlaceholderKind>
     ensures { result ≡ key_of class a b }
 {
     match class {
-        0 => PlaceholderKind::Absent,
-        1 => PlaceholderKind::Named(Place { start: a, len: b }),
-        2 => PlaceholderKind::Zero(ZeroIndexed(a)),
-        _ => PlaceholderKind::One(OneIndexed(a)),
+        0 => None,
+        1 => Some(PlaceholderKind::Named(Place { start: a, len: b })),
+        2 => Some(PlaceholderKind::Zero(ZeroIndexed(a))),
+        _ => Some(PlaceholderKind::One(OneIndexed(a))),
     }
 }
 
 // The one conversion.
-pub fn zero_indexed(n: OneIndexed) -> Index
+pub fn zero_indexed(n: OneIndexed) -> Option<ZeroIndexed>
     ensures { result ≡ from_one n }
 {
-    let k = n.0;
-    if k == 0 {
-        Index::Refused
-    } else {
-        Index::At(ZeroIndexed(k - 1))
-    }
+    Some(ZeroIndexed(n.0.checked_sub(1)?))
 }
 
 // ---- token records
 
+#[tactic(auto, unfolding(rules::specs::Words::token_from))]
 pub fn token_at(s: &[u8], i: usize) -> Token
     requires { tokens_at + 20 * i + 20 ≤ length s.now }
     ensures { result ≡ token_at s.now i }
@@ -143,6 +137,7 @@ pub fn token_at(s: &[u8], i: usize) -> Token
 
 // The parts of a token record alone, for what passes over many of them.
 
+#[tactic(auto, unfolding(rules::specs::Words::token_from))]
 pub fn kind_at(s: &[u8], i: usize) -> TokenKind
     requires { tokens_at + 20 * i + 20 ≤ length s.now }
     ensures { result ≡ (token_at s.now i).kind }
@@ -151,6 +146,7 @@ pub fn kind_at(s: &[u8], i: usize) -> TokenKind
     kind_of(kind_bits(w))
 }
 
+#[tactic(auto, unfolding(rules::specs::Words::token_from))]
 pub fn value_at(s: &[u8], i: usize) -> Place
     requires { tokens_at + 20 * i + 20 ≤ length s.now }
     ensures { result ≡ (token_at s.now i).value }
@@ -158,6 +154,7 @@ pub fn value_at(s: &[u8], i: usize) -> Place
     place_at(s, 48 + 20 * i + 4)
 }
 
+#[tactic(auto, unfolding(rules::specs::Words::token_from))]
 pub fn create_at(s: &[u8], i: usize) -> bool
     requires { tokens_at + 20 * i + 20 ≤ length s.now }
     ensures { result ≡ (token_at s.now i).create }

@@ -1,15 +1,12 @@
 -- Each handler's rule from what its calls gave. Assumes nothing.
 use mathlib.Core.Path.{◌≡◌, refl, ◌∙◌}
 use mathlib.Core.Bool.{Bool, true, false, not, ◌&&◌}
-use mathlib.Core.Option.{Option}
+use Rattle.std.specs.Prelude.{Option, if◌then◌else◌, ℕ}
 use mathlib.Core.List.{List, [], ◌∷◌}
 use Prim.Native.Nat.{ℕ, ◌+◌, ◌-◌, ◌≤◌, ◌<◌}
 use native.Mathlib.Omega.{arith}
-use lib.Dec.{ltb}
 use lib.ListN.{length}
 use Rattle.rules.specs.declared.Case.{Case}
-use Rattle.rules.specs.declared.Limit.{Limit}
-use Rattle.rules.specs.declared.Limit.TheVariants as limits
 use Rattle.rules.specs.declared.SpanInfo.{SpanInfo}
 use Rattle.rules.specs.declared.IndentType.{IndentType}
 use Rattle.rules.specs.declared.IndentType.TheVariants.{Top, Block, FoldedBlock}
@@ -22,11 +19,9 @@ use Rattle.rules.specs.Indentation.{Indentation, unfolded, indent_level, increas
 use Rattle.rules.specs.Formatter.{newline_before, format_top_level_reserved_word, format_top_level_reserved_word_no_indent, format_newline_after_reserved_word}
 use Rattle.text.specs.Held.{text_of, Laid}
 use Rattle.text.specs.declared.Text.{Text as CodeText}
-use Rattle.indentation.specs.Of.{span_in, types_of, indentation_of, Clean, Stands}
+use Rattle.indentation.specs.Of.{types_of, indentation_of, Clean, Stands}
 use Rattle.indentation.proofs.Laws.{types_length}
 use Rattle.indentation.specs.declared.Indentation.{Indentation as Stacks}
-use Rattle.indentation.specs.declared.TopLevel.{TopLevel}
-use Rattle.indentation.specs.declared.TopLevel.TheVariants as top
 use Rattle.query.specs.Query
 use Rattle.query.specs.declared.Value.{Value}
 use Rattle.query.proofs.Halves as halves
@@ -40,7 +35,6 @@ use Rattle.state.proofs.Below.{below_up, top_below, untop_below, top-level-below
 use Rattle.state.specs.Of.{value_in, word_of, state_of, with_indentation, Known, Ready, env_in, here_in, Handled, given}
 use Rattle.state.proofs.Laws.{by-halves}
 use Rattle.rules.specs.Base.{when, full}
-use Rattle.std.specs.Prelude.{if◌then◌else◌}
 use Rattle.reserved.proofs.Laws.{when-below, when-words, level-words, full-words, written, word-is}
 use Rattle.top_level.specs.declared.Levels.{Levels}
 use Rattle.top_level.specs.Levels.{out_of, into_of, Turned}
@@ -149,22 +143,6 @@ by-create b create after e h = rw (h, e)
 pub number-few : (s : List ℕ) (x : Context) (i : ℕ) → Known s x → i < x.counts.tokens → i < 65535
 number-few s x i known here = let f = known.sheeted.few.tokens in omega arith
 
-pub none-longer : (most len : ℕ) (last : TopLevel) → last ≡ top.Nothing → true ≡ newline_before (limits.Some most) (span_in last) len
-unfolding newline_before span_in
-none-longer most len last e = rw e
-
-pub by-longer : (most len : ℕ) (last : TopLevel) (sp : SpanInfo) (a b c : ℕ) → last ≡ top.Span sp → (a ≡ most) × (a < 4294967296) → (b ≡ sp.full_span) × (b < 4294967296) → (c ≡ len) × (c < 4294967296)
-    → ltb a (b + c) ≡ newline_before (limits.Some most) (span_in last) len
-unfolding newline_before span_in
-by-longer most len last sp a b c e ha hb hc = rw (e, ha.0, hb.0, hc.0)
-
-pub no-limit : (limit : Limit) (o : Option SpanInfo) (len : ℕ) → limit ≡ limits.None → true ≡ newline_before limit o len
-unfolding newline_before
-no-limit limit o len e = rw e
-
-pub by-limit : (limit : Limit) (o : Option SpanInfo) (most len : ℕ) (b : Bool) → limit ≡ limits.Some most → b ≡ newline_before (limits.Some most) o len → b ≡ newline_before limit o len
-by-limit limit o most len b e h = rw e h
-
 -- ---- the handlers
 
 module _ (s : List ℕ) (x : Context) (i : ℕ) (st : Code) (d : List ℕ) (ready : Ready s x i st d) (v : Value) (ev : v ≡ value_in s x i) (k : Case) (ek : k ≡ case_of s x.counts x.options.casing (word_of s x.base i)) (sp : SpanInfo) (t : CodeText) (r : Code) (q : List ℕ) where
@@ -225,8 +203,8 @@ module _ (s : List ℕ) (x : Context) (i : ℕ) (st : Code) (d : List ℕ) (read
       (rw (out-is b false l told, into-is b false l told, noted_is b false l told, word-is s x i ready.known v ev k ek (length d), ready.known.options)
       (halves.top-level-no-indent (env_in s x (length d)) (here_in s x i) now sp))
 
-  pub by-newline-after : (last : TopLevel) (n : ℕ) (before : Bool) (l : Levels) → n ≡ length (word_of s x.base i) → span_in last ≡ previous_top_level_reserved stacks
-      → before ≡ newline_before x.options.max_inline_top_level (span_in last) n → Turned stacks before true sp i l
+  pub by-newline-after : (last : Option SpanInfo) (n : ℕ) (before : Bool) (l : Levels) → n ≡ length (word_of s x.base i) → last ≡ previous_top_level_reserved stacks
+      → before ≡ newline_before x.options.max_inline_top_level last n → Turned stacks before true sp i l
       → Laid (length d) (Query.newline_after (length d) x.options before l.out word l.six l.into (text_of st.text d)) t q → r ≡ with_indentation st t l.stacks
       → Handled s x i (given format_newline_after_reserved_word sp) st d r q
   unfolding env_of state_of when

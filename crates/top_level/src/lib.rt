@@ -3,19 +3,18 @@
 #![tactic(auto)]
 
 ghost use Rattle.std.specs.Prelude.{◌≡◌, false, not, ◌&&◌, ◌<◌};
-ghost use Rattle.rules.specs.declared.Limit.TheVariants as limits;
 ghost use Rattle.rules.specs.Words.{token_at};
 ghost use Rattle.rules.specs.Indentation.{indent_level};
 ghost use Rattle.rules.specs.Formatter.{newline_before, format_top_level_reserved_word, format_top_level_reserved_word_no_indent, format_newline_after_reserved_word};
-ghost use Rattle.indentation.specs.Of.{span_in, indentation_of, Clean};
+ghost use Rattle.indentation.specs.Of.{indentation_of, Clean};
 ghost use Rattle.state.specs.Of.{Known, Ready, Handled, given};
 ghost use Rattle.top_level.specs.Levels.{Turned};
 
 use around::value_len;
-use indentation::{Indentation, TopLevel};
+use indentation::Indentation;
 use query_reserved::TopLevelWord;
 use reserved::case_of;
-use rules::{Limit, SpanInfo};
+use rules::SpanInfo;
 use state::{Context, State, value_of};
 use tokens::{create_at, to_usize};
 
@@ -148,21 +147,13 @@ pub fn format_top_level_reserved_word_no_indent(
 // ---- a word with a new line after it
 
 // The stacks put no bound on a span: it and the length are added as `usize`, where two words cannot wrap.
-fn longer(most: u32, last: TopLevel, len: u32) -> bool
-    ensures { result ≡ newline_before (limits.Some most) (span_in last) len }
+#[tactic(auto, unfolding(rules::specs::Formatter::newline_before))]
+fn newline_before(limit: Option<u32>, last: Option<SpanInfo>, len: u32) -> bool
+    ensures { result ≡ newline_before limit last len }
 {
-    match last {
-        TopLevel::Nothing => true,
-        TopLevel::Span(sp) => to_usize(most) < to_usize(sp.full_span) + to_usize(len),
-    }
-}
-
-fn newline_before(limit: Limit, last: TopLevel, len: u32) -> bool
-    ensures { result ≡ newline_before limit (span_in last) len }
-{
-    match limit {
-        Limit::None => true,
-        Limit::Some(most) => longer(most, last, len),
+    match (limit, last) {
+        (Some(most), Some(sp)) => to_usize(most) < to_usize(sp.full_span) + to_usize(len),
+        _ => true,
     }
 }
 

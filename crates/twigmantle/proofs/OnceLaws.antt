@@ -1,4 +1,6 @@
 -- The layout calls with a table: 12, or the plain call's answer. Assumes nothing.
+use Rattle.rules.specs.declared.Offence.{Offence}
+use Rattle.std.specs.Prelude.{Err, Ok, Result}
 use mathlib.Core.Path.{◌≡◌, refl, sym, subst, ap, ◌∙◌}
 use mathlib.Core.Bool.{Bool, true, false, not, ◌&&◌}
 use mathlib.Core.List.{List}
@@ -7,8 +9,6 @@ use native.Mathlib.Omega.{arith}
 use lib.Dec.{ltb}
 use lib.ListN.{replicate}
 use borrow.Author.Tests.{lt-ltb, le-ltb}
-use Rattle.rules.specs.declared.Checked.{Checked}
-use Rattle.rules.specs.declared.Checked.TheVariants as found
 use Rattle.rules.specs.declared.Counts.{Counts}
 use Rattle.rules.specs.declared.Report.{Report}
 use Rattle.rules.specs.Checks.{checked}
@@ -31,18 +31,18 @@ on true e = refl
 on false e = sym e
 
 -- report, buffer and list of a call with a table (t true) of m words, whose checks found c
-abbrev pub Tabled : List ℕ → ℕ → Bool → ℕ → Bool → ℕ → Checked → Report → List ℕ → List ℕ → Type 0
+abbrev pub Tabled : List ℕ → ℕ → Bool → ℕ → Bool → ℕ → Result Counts Offence → Report → List ℕ → List ℕ → Type 0
 Tabled s room b k t m c r out list =
     (r ≡ report_of (once_as s t m c (called_as s room b k c)))
     × ((out ≡ buffer_of room (once_as s t m c (called_as s room b k c)))
     × (list ≡ list_once_as s t m c k (list_called s room b k c)))
 
-pub by-found-once : (s : List ℕ) (room : ℕ) (b : Bool) (k : ℕ) (t : Bool) (m : ℕ) (f c : Checked) (r : Report) (out list : List ℕ) → f ≡ checked s → f ≡ c → Tabled s room b k t m c r out list → Tabled s room b k t m (checked s) r out list
-by-found-once s room b k t m f c r out list e g h = subst (λ (z : Checked). Tabled s room b k t m z r out list) (sym g ∙ e) h
+pub by-found-once : (s : List ℕ) (room : ℕ) (b : Bool) (k : ℕ) (t : Bool) (m : ℕ) (f c : Result Counts Offence) (r : Report) (out list : List ℕ) → f ≡ checked s → f ≡ c → Tabled s room b k t m c r out list → Tabled s room b k t m (checked s) r out list
+by-found-once s room b k t m f c r out list e g h = subst (λ (z : Result Counts Offence). Tabled s room b k t m z r out list) (sym g ∙ e) h
 
 module _ (s : List ℕ) (room : ℕ) (b : Bool) (k : ℕ) (t : Bool) (m : ℕ) (r : Report) (out list : List ℕ) where
   -- the table is not asked for, or is long enough
-  by-plain : (c : Checked) → (t && lacks_table s m c) ≡ false → Told s room b k c r out list → Tabled s room b k t m c r out list
+  by-plain : (c : Result Counts Offence) → (t && lacks_table s m c) ≡ false → Told s room b k c r out list → Tabled s room b k t m c r out list
   unfolding once_as list_once_as
   by-plain c e h = (rw e h.0, (rw e h.1.0, rw e h.1.1))
 
@@ -50,51 +50,39 @@ module _ (s : List ℕ) (room : ℕ) (b : Bool) (k : ℕ) (t : Bool) (m : ℕ) (
   never true = refl
   never false = refl
 
-  pub once-size : Told s room b k found.Size r out list → Tabled s room b k t m found.Size r out list
+  pub once-offence : (o : Offence) → Told s room b k (Err o) r out list → Tabled s room b k t m (Err o) r out list
   unfolding lacks_table
-  once-size h = by-plain found.Size (never t) h
-
-  pub once-word : (p : ℕ) → Told s room b k (found.Word p) r out list → Tabled s room b k t m (found.Word p) r out list
-  unfolding lacks_table
-  once-word p h = by-plain (found.Word p) (never t) h
-
-  pub once-place : (p : ℕ) → Told s room b k (found.Place p) r out list → Tabled s room b k t m (found.Place p) r out list
-  unfolding lacks_table
-  once-place p h = by-plain (found.Place p) (never t) h
-
-  pub once-byte : (p : ℕ) → Told s room b k (found.Byte p) r out list → Tabled s room b k t m (found.Byte p) r out list
-  unfolding lacks_table
-  once-byte p h = by-plain (found.Byte p) (never t) h
+  once-offence o h = by-plain (Err o) (never t) h
 
   module _ (c : Counts) where
     -- 14 is given, and neither 12 nor 10 comes before it
-    pub withdrawn : is_withdrawn s ≡ true → r ≡ report_of (refusal 14 28) → out ≡ buffer_of room (refusal 14 28) → list ≡ replicate k 0 → Tabled s room b k t m (found.Sound c) r out list
+    pub withdrawn : is_withdrawn s ≡ true → r ≡ report_of (refusal 14 28) → out ≡ buffer_of room (refusal 14 28) → list ≡ replicate k 0 → Tabled s room b k t m (Ok c) r out list
     unfolding lacks_table called_as list_called listed_as list_as answer_as is_short to_lay_out list_for
-    withdrawn w told left zero = by-plain (found.Sound c) (rw w (never t)) (go b)
+    withdrawn w told left zero = by-plain (Ok c) (rw w (never t)) (go b)
       where
-        go : (h : Bool) → Told s room h k (found.Sound c) r out list
+        go : (h : Bool) → Told s room h k (Ok c) r out list
         go true = (rw (w, le-ltb k 0 (omega arith)) told, (rw (w, le-ltb k 0 (omega arith)) left, rw (w, le-ltb k 0 (omega arith)) zero))
         go false = (rw w told, (rw w left, zero))
 
     module _ (w : is_withdrawn s ≡ false) where
-      pub untabled : not t ≡ true → Told s room b k (found.Sound c) r out list → Tabled s room b k t m (found.Sound c) r out list
-      untabled e h = by-plain (found.Sound c) (rw (off t e)) h
+      pub untabled : not t ≡ true → Told s room b k (Ok c) r out list → Tabled s room b k t m (Ok c) r out list
+      untabled e h = by-plain (Ok c) (rw (off t e)) h
 
-      pub tabled_narrow : not t ≡ false → m < 6 * c.tokens → r ≡ report_of (refusal 12 0) → out ≡ buffer_of room (refusal 12 0) → list ≡ replicate k 0 → Tabled s room b k t m (found.Sound c) r out list
+      pub tabled_narrow : not t ≡ false → m < 6 * c.tokens → r ≡ report_of (refusal 12 0) → out ≡ buffer_of room (refusal 12 0) → list ≡ replicate k 0 → Tabled s room b k t m (Ok c) r out list
       unfolding once_as list_once_as lacks_table
       tabled_narrow e l told left zero = (rw (on t e, w, lt) told, (rw (on t e, w, lt) left, rw (on t e, w, lt) zero))
         where
           lt : ltb m (6 * c.tokens) ≡ true
           lt = lt-ltb m (6 * c.tokens) l
 
-      pub tabled_wide : not t ≡ false → 6 * c.tokens ≤ m → Told s room b k (found.Sound c) r out list → Tabled s room b k t m (found.Sound c) r out list
+      pub tabled_wide : not t ≡ false → 6 * c.tokens ≤ m → Told s room b k (Ok c) r out list → Tabled s room b k t m (Ok c) r out list
       unfolding lacks_table
-      tabled_wide e l h = by-plain (found.Sound c) (rw (on t e, w, le-ltb m (6 * c.tokens) l)) h
+      tabled_wide e l h = by-plain (Ok c) (rw (on t e, w, le-ltb m (6 * c.tokens) l)) h
 
 -- ---- the exported calls
 
 -- without a table the plain call
-pub plain-told : (s : List ℕ) (room : ℕ) (b : Bool) (k m : ℕ) (c : Checked) (r : Report) (out list : List ℕ) → Tabled s room b k false m c r out list → Told s room b k c r out list
+pub plain-told : (s : List ℕ) (room : ℕ) (b : Bool) (k m : ℕ) (c : Result Counts Offence) (r : Report) (out list : List ℕ) → Tabled s room b k false m c r out list → Told s room b k c r out list
 unfolding once_as list_once_as
 plain-told s room b k m c r out list h = h
 

@@ -1,8 +1,7 @@
 // What the desk's host calls: any bytes, any buffer, any list.
 #![tactic(auto)]
 
-ghost use Rattle.std.specs.Prelude.{if◌then◌else◌, ◌≡◌, true, false, ◌&&◌, ◌*◌, ◌≤◌, length, replicate};
-ghost use Rattle.rules.specs.declared.Checked.TheVariants as found;
+ghost use Rattle.std.specs.Prelude.{if◌then◌else◌, ◌≡◌, true, false, ◌&&◌, ◌*◌, ◌≤◌, length, replicate, Ok};
 ghost use Rattle.rules.specs.Checks.{checked};
 ghost use Rattle.rules.specs.Sheet.{env_of, tokens_of};
 ghost use Rattle.rules.specs.Answer.{refusal, format, is_withdrawn, report_of, buffer_of, reported, buffer_after};
@@ -26,7 +25,7 @@ ghost use Rattle.twigmantle.specs.Enough.{Enough};
 ghost use Rattle.twigmantle.specs.Once.{lacks_table, once_as, list_once_as, once, once_listed, once_list};
 
 use foreign::Judged;
-use rules::{Checked, Counts, Outcome, Report};
+use rules::{Counts, Outcome, Report};
 use state::Context;
 use switched::{most_placeholders, placeholders};
 
@@ -77,7 +76,7 @@ fn laid_out(
 // Whether rows are asked for, and the list has too few words.
 fn is_short(sheet: &[u8], words: usize, with_rows: bool, c: Counts) -> bool
     requires { (Sheeted sheet.now c) × (is_withdrawn sheet.now ≡ false) }
-    ensures { result ≡ (with_rows && is_short sheet.now words (found.Sound c)) }
+    ensures { result ≡ (with_rows && is_short sheet.now words (Ok c)) }
 {
     if !with_rows {
         return false;
@@ -105,9 +104,9 @@ fn sound(
 ) -> Report
     requires sheeted { (Sheeted sheet.now c) × (is_withdrawn sheet.now ≡ false) }
     requires filled { with_table ≡ true → Filled sheet.now (body_at c) c.tokens table.now }
-    ensures value { result ≡ report_of (called_as sheet.now (length text.old) with_rows (length rows.old) (found.Sound c)) }
-    ensures text_after { text.new ≡ buffer_of (length text.old) (called_as sheet.now (length text.old) with_rows (length rows.old) (found.Sound c)) }
-    ensures rows_after { rows.new ≡ list_called sheet.now (length text.old) with_rows (length rows.old) (found.Sound c) }
+    ensures value { result ≡ report_of (called_as sheet.now (length text.old) with_rows (length rows.old) (Ok c)) }
+    ensures text_after { text.new ≡ buffer_of (length text.old) (called_as sheet.now (length text.old) with_rows (length rows.old) (Ok c)) }
+    ensures rows_after { rows.new ≡ list_called sheet.now (length text.old) with_rows (length rows.old) (Ok c) }
 {
     let words = rows.len();
     if is_short(sheet, words, with_rows, c) {
@@ -128,9 +127,9 @@ fn tabled(
 ) -> Report
     requires { (Sheeted sheet.now c) × (is_withdrawn sheet.now ≡ false) }
     ensures table_len_unchanged { length table.new ≡ length table.old }
-    ensures value { result ≡ report_of (once_as sheet.now with_table (length table.old) (found.Sound c) (called_as sheet.now (length text.old) with_rows (length rows.old) (found.Sound c))) }
-    ensures text_after { text.new ≡ buffer_of (length text.old) (once_as sheet.now with_table (length table.old) (found.Sound c) (called_as sheet.now (length text.old) with_rows (length rows.old) (found.Sound c))) }
-    ensures rows_after { rows.new ≡ list_once_as sheet.now with_table (length table.old) (found.Sound c) (length rows.old) (list_called sheet.now (length text.old) with_rows (length rows.old) (found.Sound c)) }
+    ensures value { result ≡ report_of (once_as sheet.now with_table (length table.old) (Ok c) (called_as sheet.now (length text.old) with_rows (length rows.old) (Ok c))) }
+    ensures text_after { text.new ≡ buffer_of (length text.old) (once_as sheet.now with_table (length table.old) (Ok c) (called_as sheet.now (length text.old) with_rows (length rows.old) (Ok c))) }
+    ensures rows_after { rows.new ≡ list_once_as sheet.now with_table (length table.old) (Ok c) (length rows.old) (list_called sheet.now (length text.old) with_rows (length rows.old) (Ok c)) }
 {
     if !with_table {
         return sound(sheet, text, rows, with_rows, table, false, c);
@@ -156,9 +155,9 @@ fn unless_withdrawn(
 ) -> Report
     requires { Sheeted sheet.now c }
     ensures table_len_unchanged { length table.new ≡ length table.old }
-    ensures value { result ≡ report_of (once_as sheet.now with_table (length table.old) (found.Sound c) (called_as sheet.now (length text.old) with_rows (length rows.old) (found.Sound c))) }
-    ensures text_after { text.new ≡ buffer_of (length text.old) (once_as sheet.now with_table (length table.old) (found.Sound c) (called_as sheet.now (length text.old) with_rows (length rows.old) (found.Sound c))) }
-    ensures rows_after { rows.new ≡ list_once_as sheet.now with_table (length table.old) (found.Sound c) (length rows.old) (list_called sheet.now (length text.old) with_rows (length rows.old) (found.Sound c)) }
+    ensures value { result ≡ report_of (once_as sheet.now with_table (length table.old) (Ok c) (called_as sheet.now (length text.old) with_rows (length rows.old) (Ok c))) }
+    ensures text_after { text.new ≡ buffer_of (length text.old) (once_as sheet.now with_table (length table.old) (Ok c) (called_as sheet.now (length text.old) with_rows (length rows.old) (Ok c))) }
+    ensures rows_after { rows.new ≡ list_once_as sheet.now with_table (length table.old) (Ok c) (length rows.old) (list_called sheet.now (length text.old) with_rows (length rows.old) (Ok c)) }
 {
     if records::is_withdrawn(sheet) {
         return refused(text, rows, 14, 28);
@@ -179,13 +178,9 @@ fn answered(
     ensures text_after { text.new ≡ buffer_of (length text.old) (once_as sheet.now with_table (length table.old) (checked sheet.now) (called_as sheet.now (length text.old) with_rows (length rows.old) (checked sheet.now))) }
     ensures rows_after { rows.new ≡ list_once_as sheet.now with_table (length table.old) (checked sheet.now) (length rows.old) (list_called sheet.now (length text.old) with_rows (length rows.old) (checked sheet.now)) }
 {
-    let found = checks::check(sheet);
-    match found {
-        Checked::Sound(c) => unless_withdrawn(sheet, text, rows, with_rows, table, with_table, c),
-        Checked::Size => refused(text, rows, 1, 0),
-        Checked::Word(p) => refused(text, rows, 2, p),
-        Checked::Place(p) => refused(text, rows, 3, p),
-        Checked::Byte(p) => refused(text, rows, 4, p),
+    match checks::check(sheet) {
+        Ok(c) => unless_withdrawn(sheet, text, rows, with_rows, table, with_table, c),
+        Err(o) => refused(text, rows, o.number(), o.place()),
     }
 }
 
@@ -288,13 +283,9 @@ pub fn twigmantle_compact(sheet: &[u8], out: &mut [u8]) -> Outcome
     ensures compacts { Compacts sheet.now result out.new }
     ensures stored { Stored sheet.now result out.new }
 {
-    let found = checks::check(sheet);
-    match found {
-        Checked::Sound(c) => compact::compact(sheet, out, c),
-        Checked::Size => not_written(out, 1, 0),
-        Checked::Word(p) => not_written(out, 2, p),
-        Checked::Place(p) => not_written(out, 3, p),
-        Checked::Byte(p) => not_written(out, 4, p),
+    match checks::check(sheet) {
+        Ok(c) => compact::compact(sheet, out, c),
+        Err(o) => not_written(out, o.number(), o.place()),
     }
 }
 

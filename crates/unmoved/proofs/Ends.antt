@@ -1,13 +1,12 @@
 -- The trim at both ends of a text of items, and what is left of it without the values. Assumes nothing.
 use mathlib.Core.Path.{◌≡◌, refl, sym, ap, ◌∙◌}
 use mathlib.Core.Bool.{Bool, true, false}
-use mathlib.Core.Option.{Option, none, some}
+use Rattle.std.specs.Prelude.{Option, None, Some, if◌then◌else◌}
 use mathlib.Core.List.{List, [], ◌∷◌, ◌++◌, map, map-map, append_assoc, append-nil}
 use Prim.Native.Nat.{ℕ, ◌+◌, ◌-◌, ◌≤◌, min}
 use native.Mathlib.Omega.{arith}
 use lib.ListN.{length, take, drop, length-append}
 use lib.Seq.{take-append_seam, drop-append_seam, drop-append-add}
-use Rattle.std.specs.Prelude.{if◌then◌else◌}
 use Rattle.rules.specs.Text.{is_white, trim_start, trim_end, trimmed}
 use Rattle.rules.specs.Rows.{Row, between, clip, shift, trim_row}
 use Rattle.rules.proofs.Strip.{white-true}
@@ -119,7 +118,7 @@ moved-first n a j k l h = spot_same (omega arith) (omega arith)
 
 map-none : (f : Spot → Spot) (hs : List Spot) → [] ≡ map f hs → hs ≡ []
 map-none f [] e = refl
-map-none f (h ∷ hs) e = absurd (let z : ◌≡◌ {A = ℕ} 0 1 = cc in omega arith)
+map-none f (h ∷ hs) e = cc
 
 start-short : (v : List ℕ) → length (trim_start is_white v) ≤ length v
 start-short [] = omega arith
@@ -158,8 +157,8 @@ spots-lead i (x ∷ m) n h = go (lead m) x (λ k. spots-lead i m k) h
 
 -- a row that has an entry stands at a spot
 abbrev pub spotted : Option ℕ → Spot → List Spot → List Spot
-spotted none h hs = hs
-spotted (some n) h hs = h ∷ hs
+spotted None h hs = hs
+spotted (Some n) h hs = h ∷ hs
 
 abbrev pub spot_in : Row → List Spot → List Spot
 spot_in r hs = spotted r.entry (record { start = r.start; len = r.len }) hs
@@ -174,8 +173,8 @@ left_by_lem [] b = refl
 left_by_lem (r ∷ rs) b = go r.entry (λ c. left_by_lem rs c)
   where
     go : (o : Option ℕ) → ((c : List ℕ) → left rs c ≡ left_by (spots rs) c) → left rs (removed o r b) ≡ left_by (spotted o (record { start = r.start; len = r.len }) (spots rs)) b
-    go none ih = ih b
-    go (some n) ih = ih (take r.start b ++ drop (r.start + r.len) b)
+    go None ih = ih b
+    go (Some n) ih = ih (take r.start b ++ drop (r.start + r.len) b)
 
 -- a cut past all of them moves none
 pub spots-clip : (n : ℕ) (rs : List Row) → Within n (spots rs) → spots (map (clip n) rs) ≡ spots rs
@@ -185,8 +184,8 @@ spots-clip n (r ∷ rs) h = go r.entry (λ k. spots-clip n rs k) h
   where
     go : (o : Option ℕ) → (Within n (spots rs) → spots (map (clip n) rs) ≡ spots rs) → Within n (spotted o (record { start = r.start; len = r.len }) (spots rs))
         → spotted o (record { start = min n r.start; len = min n (r.start + r.len) - min n r.start }) (spots (map (clip n) rs)) ≡ spotted o (record { start = r.start; len = r.len }) (spots rs)
-    go none ih h = ih h
-    go (some x) ih h = let k = h.0 in rw (ih h.1) (ap (λ (s : Spot). s ∷ spots rs) (spot_same (omega arith) (omega arith)))
+    go None ih h = ih h
+    go (Some x) ih h = let k = h.0 in rw (ih h.1) (ap (λ (s : Spot). s ∷ spots rs) (spot_same (omega arith) (omega arith)))
 
 spots-shift : (n : ℕ) (rs : List Row) → spots (map (shift n) rs) ≡ map (shifted n) (spots rs)
 unfolding shift between
@@ -195,8 +194,8 @@ spots-shift n (r ∷ rs) = go r.entry (spots-shift n rs)
   where
     go : (o : Option ℕ) → spots (map (shift n) rs) ≡ map (shifted n) (spots rs)
         → spotted o (record { start = r.start - n; len = r.start + r.len - n - (r.start - n) }) (spots (map (shift n) rs)) ≡ map (shifted n) (spotted o (record { start = r.start; len = r.len }) (spots rs))
-    go none ih = ih
-    go (some x) ih = rw ih
+    go None ih = ih
+    go (Some x) ih = rw ih
 
 -- ---- the end of a run
 

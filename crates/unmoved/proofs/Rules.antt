@@ -1,7 +1,7 @@
 -- Two states that differ in their texts alone, which are the same items: each rule that adds no value keeps them so. Assumes nothing.
 use mathlib.Core.Path.{◌≡◌, refl, sym, subst}
 use mathlib.Core.Bool.{Bool, true, false}
-use mathlib.Core.Option.{Option, none, some}
+use Rattle.std.specs.Prelude.{Option, None, Some}
 use mathlib.Core.List.{List, [], ◌∷◌}
 use Prim.Native.Nat.{ℕ, suc}
 use Rattle.rules.specs.declared.TokenKind.{TokenKind}
@@ -199,8 +199,8 @@ module _ (op : FormatOptions) (keep : List (List ℕ)) (ps qs : QueryParams) (ro
 
     indents_inlined : (o : Option SpanInfo) {s t : State} → Twin s t → Twin (indent_inlined o s) (indent_inlined o t)
     unfolding indent_inlined
-    indents_inlined none p = p
-    indents_inlined (some sp) p = p ▹ maybe _ _ _ (increases sp)
+    indents_inlined None p = p
+    indents_inlined (Some sp) p = p ▹ maybe _ _ _ (increases sp)
 
     newline : (h : Here) {s t : State} → Twin s t → Twin (format_newline_reserved_word ones h s) (format_newline_reserved_word others h t)
     unfolding format_newline_reserved_word

@@ -1,14 +1,13 @@
 -- Two runs side by side over the same tokens, with parameters of one shape: the texts stay the same items, and the rows with an entry stand at their values. Assumes nothing.
 use mathlib.Core.Path.{◌≡◌, refl, sym, ap, subst, ◌∙◌}
 use mathlib.Core.Bool.{Bool, true, false}
-use mathlib.Core.Option.{Option, none, some}
+use Rattle.std.specs.Prelude.{Option, None, Some, if◌then◌else◌}
 use mathlib.Core.List.{List, [], ◌∷◌, ◌++◌, map}
 use Prim.Native.Nat.{ℕ, suc}
 use lib.ListN.{length}
 use Rattle.rules.specs.declared.Turn.{Turn}
 use Rattle.rules.specs.declared.FormatOptions.{FormatOptions}
 use Rattle.rules.specs.Base.{◌▹◌, when}
-use Rattle.std.specs.Prelude.{if◌then◌else◌}
 use Rattle.rules.specs.Tokens.{Token, Here, is}
 use Rattle.rules.specs.Sheet.{Env, QueryParams}
 use Rattle.rules.specs.Text.{Text, fits, refused, append, refuse, mark, low_of, bytes_in}
@@ -39,8 +38,8 @@ texts-shown : {ls hs ls' hs' : List Spot} (room room' : ℕ) (c : Bool) (v : Lis
     → Texts ls (spotted o (record { start = length (bytes_in t); len = length x }) hs) ls' (spotted o (record { start = length (bytes_in u); len = length y }) hs')
     (append room x (if c then refuse 5 t else t)) (append room' y (if c then refuse 5 u else u))
 texts-shown room room' true v o x y f p = gone _ _ _ _ room room' 5 x y p
-texts-shown room room' false v none x y f p = rw (f.0, f.1) (texts-append room room' v p)
-texts-shown room room' false v (some n) x y f p = texts-hole room room' x y f.0 f.1 p
+texts-shown room room' false v None x y f p = rw (f.0, f.1) (texts-append room room' v p)
+texts-shown room room' false v (Some n) x y f p = texts-hole room room' x y f.0 f.1 p
 
 -- ---- rows
 

@@ -1,4 +1,6 @@
 -- Wish 14: a caller's data moves no layout, on either engine. Assumes nothing.
+use Rattle.rules.specs.declared.Offence.TheVariants as offence
+use Rattle.rules.specs.declared.Offence.{Offence}
 use mathlib.Core.Path.{◌≡◌, refl, ap, ◌∙◌}
 use mathlib.Core.Bool.{Bool, true, false}
 use mathlib.Core.List.{List, ◌++◌, map}
@@ -7,9 +9,7 @@ use native.Mathlib.Omega.{arith}
 use lib.ListN.{length, take, replicate}
 use lib.Seq.{take-append_seam}
 use Rattle.rules.specs.declared.Counts.{Counts}
-use Rattle.rules.specs.declared.Checked.{Checked}
-use Rattle.rules.specs.declared.Checked.TheVariants as found
-use Rattle.std.specs.Prelude.{if◌then◌else◌}
+use Rattle.std.specs.Prelude.{if◌then◌else◌, Err, Ok, Result}
 use Rattle.rules.specs.Words.{counts_of}
 use Rattle.rules.specs.Checks.{checked}
 use Rattle.rules.specs.Sheet.{Env, options_of, params_of, keeps_of, env_of, tokens_of}
@@ -42,22 +42,22 @@ no-refusal (laid b l w) v p z = record { text = b; lines = l; width = w; is = re
 no-refusal (refusal n q) v p z = absurd (let m = p.0 in omega arith)
 
 -- the sheet is sound, and the answer is its run's
-record Sound (s : List ℕ) (room : ℕ) (c : Checked) (a : Answer) : Type 0 where
+record Sound (s : List ℕ) (room : ℕ) (c : Result Counts Offence) (a : Answer) : Type 0 where
   pub counts : Counts
-  pub found_so : c ≡ found.Sound counts
+  pub found_so : c ≡ Ok counts
   pub formats : format (env_of s counts room) (tokens_of s counts) ≡ a
 
-sound-laid : (s : List ℕ) (room : ℕ) (c : Checked) (b : List ℕ) (l w : ℕ) → answer_as s room c ≡ laid b l w → Sound s room c (laid b l w)
+sound-laid : (s : List ℕ) (room : ℕ) (c : Result Counts Offence) (b : List ℕ) (l w : ℕ) → answer_as s room c ≡ laid b l w → Sound s room c (laid b l w)
 unfolding answer_as
-sound-laid s room (found.Sound c) b l w e = go (is_withdrawn s) e
+sound-laid s room (Ok c) b l w e = go (is_withdrawn s) e
   where
-    go : (f : Bool) → (if f then refusal 14 28 else format (env_of s c room) (tokens_of s c)) ≡ laid b l w → Sound s room (found.Sound c) (laid b l w)
-    go true e = absurd (let z : ◌≡◌ {A = ℕ} 0 1 = cc in omega arith)
+    go : (f : Bool) → (if f then refusal 14 28 else format (env_of s c room) (tokens_of s c)) ≡ laid b l w → Sound s room (Ok c) (laid b l w)
+    go true e = cc
     go false e = record { counts = c; found_so = refl; formats = e }
-sound-laid s room found.Size b l w e = absurd (let z : ◌≡◌ {A = ℕ} 0 1 = cc in omega arith)
-sound-laid s room (found.Word p) b l w e = absurd (let z : ◌≡◌ {A = ℕ} 0 1 = cc in omega arith)
-sound-laid s room (found.Place p) b l w e = absurd (let z : ◌≡◌ {A = ℕ} 0 1 = cc in omega arith)
-sound-laid s room (found.Byte p) b l w e = absurd (let z : ◌≡◌ {A = ℕ} 0 1 = cc in omega arith)
+sound-laid s room (Err offence.Size) b l w e = cc
+sound-laid s room (Err (offence.Word p)) b l w e = cc
+sound-laid s room (Err (offence.Place p)) b l w e = cc
+sound-laid s room (Err (offence.Byte p)) b l w e = cc
 
 -- its text in the buffer, and its rows in the list, are those of the run
 record Back (s : List ℕ) (room k : ℕ) : Type 0 where
@@ -72,7 +72,7 @@ in_buffer : (room : ℕ) (a : Answer) (b : List ℕ) (l w : ℕ) → a ≡ laid 
 unfolding report_of buffer_of
 in_buffer room a b l w e = rw e (take-append_seam b _)
 
-in_list : (s : List ℕ) (room k : ℕ) (c : Checked) (n : Counts) (b : List ℕ) (l w : ℕ) → c ≡ found.Sound n → listed_as s room k c ≡ laid b l w
+in_list : (s : List ℕ) (room k : ℕ) (c : Result Counts Offence) (n : Counts) (b : List ℕ) (l w : ℕ) → c ≡ Ok n → listed_as s room k c ≡ laid b l w
     → let rs = rows (env_of s n room) (tokens_of s n) in list_as s room k c ≡ rows_words rs ++ replicate (k - length (rows_words rs)) 0
 unfolding list_as list_for
 in_list s room k c n b l w f e = rw (f, rw f at e)

@@ -1,20 +1,18 @@
 -- The rows are read back from the words of a list: an entry's number is below the word for none. Assumes nothing.
 use mathlib.Core.Path.{◌≡◌, refl, ap}
 use mathlib.Core.Bool.{Bool, true, false}
-use mathlib.Core.Option.{Option, none, some}
+use Rattle.std.specs.Prelude.{Option, None, Some, if◌then◌else◌, Ok}
 use mathlib.Core.List.{List, [], ◌∷◌, ◌++◌, map}
 use Prim.Native.Nat.{ℕ, zero, suc, ◌-◌, ◌≤◌, ◌<◌}
 use native.Mathlib.Omega.{arith}
 use lib.Dec.{eqb}
 use lib.ListN.{length, replicate}
 use Rattle.rules.specs.declared.Counts.{Counts}
-use Rattle.rules.specs.declared.Checked.TheVariants as found
 use Rattle.rules.specs.Base.{when, nth?}
-use Rattle.std.specs.Prelude.{if◌then◌else◌}
 use Rattle.rules.specs.Words.{word_at}
 use Rattle.rules.specs.Tokens.{Token}
 use Rattle.rules.specs.Checks.{checked}
-use Rattle.rules.specs.Sheet.{Param, QueryParams, None, Indexed, Named, list_of, value_of, param_of, params_of, env_of, tokens_of}
+use Rattle.rules.specs.Sheet.{Param, QueryParams, NoParams, Indexed, Named, list_of, value_of, param_of, params_of, env_of, tokens_of}
 use Rattle.rules.specs.Params.{source, value_in, value_at}
 use Rattle.rules.specs.Switch.{Switch, turn_of, switched_on}
 use Rattle.rules.specs.Rows.{Row, rows, rows_words, entry_word, placeholders, lays_out}
@@ -27,25 +25,25 @@ use Rattle.checks.proofs.Sound.{sound-sheeted}
 
 -- ---- an entry's number is below the number of parameters
 
-nth-below : (vs : List (List ℕ)) (n : ℕ) (v : List ℕ) → nth? vs n ≡ some v → n < length vs
-nth-below [] n v e = absurd (let z : ◌≡◌ {A = ℕ} 0 1 = cc in omega arith)
+nth-below : (vs : List (List ℕ)) (n : ℕ) (v : List ℕ) → nth? vs n ≡ Some v → n < length vs
+nth-below [] n v e = cc
 nth-below (x ∷ vs) zero v e = omega arith
 nth-below (x ∷ vs) (suc n) v e = let h = nth-below vs n v e in omega arith
 
-param-below : (ps : List Param) (n : ℕ) (v : List ℕ) → value_in (nth? ps n) ≡ some v → n < length ps
+param-below : (ps : List Param) (n : ℕ) (v : List ℕ) → value_in (nth? ps n) ≡ Some v → n < length ps
 unfolding value_in
-param-below [] n v e = absurd (let z : ◌≡◌ {A = ℕ} 0 1 = cc in omega arith)
+param-below [] n v e = cc
 param-below (x ∷ ps) zero v e = omega arith
 param-below (x ∷ ps) (suc n) v e = let h = param-below ps n v e in omega arith
 
 abbrev many : QueryParams → ℕ
-many None = 0
+many NoParams = 0
 many (Indexed vs) = length vs
 many (Named ps) = length ps
 
-value-below : (ps : QueryParams) (n : ℕ) (v : List ℕ) → value_at ps n ≡ some v → n < many ps
+value-below : (ps : QueryParams) (n : ℕ) (v : List ℕ) → value_at ps n ≡ Some v → n < many ps
 unfolding value_at
-value-below None n v e = absurd (let z : ◌≡◌ {A = ℕ} 0 1 = cc in omega arith)
+value-below NoParams n v e = cc
 value-below (Indexed vs) n v e = nth-below vs n v e
 value-below (Named ps) n v e = param-below ps n v e
 
@@ -58,7 +56,7 @@ many-params : (s : List ℕ) (c : Counts) → many (params_of s c) ≤ c.params
 unfolding params_of
 many-params s c = go (eqb (word_at s 16) 0) (eqb (word_at s 16) 1)
   where
-    go : (a b : Bool) → many (if a then None else if b then Indexed (list_of (value_of s c) 0 c.params) else Named (list_of (param_of s c) 0 c.params)) ≤ c.params
+    go : (a b : Bool) → many (if a then NoParams else if b then Indexed (list_of (value_of s c) 0 c.params) else Named (list_of (param_of s c) 0 c.params)) ≤ c.params
     go true b = omega arith
     go false true = rw (length-list_of (value_of s c) 0 c.params) (omega arith)
     go false false = rw (length-list_of (param_of s c) 0 c.params) (omega arith)
@@ -66,9 +64,9 @@ many-params s c = go (eqb (word_at s 16) 0) (eqb (word_at s 16) 1)
 -- ---- so that its word gives it back
 
 module _ (ps : QueryParams) (few : many ps ≤ 256) where
-  entry-few : (o : Option ℕ) → Found ps o → (n : ℕ) → o ≡ some n → n < 4294967295
-  entry-few none f n e = absurd (let z : ◌≡◌ {A = ℕ} 0 1 = cc in omega arith)
-  entry-few (some m) f n e =
+  entry-few : (o : Option ℕ) → Found ps o → (n : ℕ) → o ≡ Some n → n < 4294967295
+  entry-few None f n e = cc
+  entry-few (Some m) f n e =
       let s : m ≡ n = cc in
       let h = value-below ps m f.0 f.1 in
       omega arith
@@ -94,7 +92,7 @@ module _ (ps : QueryParams) (few : many ps ≤ 256) where
   worded_rows (r ∷ rs) h = (h.0, worded_rows rs h.1)
 
 -- the rows of a sound sheet, from a list of k words that holds them and zero after them
-pub rows-read : (s : List ℕ) (c : Counts) (room k : ℕ) (d : List ℕ) → checked s ≡ found.Sound c → let rs = rows (env_of s c room) (tokens_of s c) in
+pub rows-read : (s : List ℕ) (c : Counts) (room k : ℕ) (d : List ℕ) → checked s ≡ Ok c → let rs = rows (env_of s c room) (tokens_of s c) in
     length d ≡ k → d ≡ rows_words rs ++ replicate (k - length (rows_words rs)) 0 → rows_in (placeholders (tokens_of s c)) d ≡ rs
 unfolding listing shown env_of
 rows-read s c room k d sound long e =

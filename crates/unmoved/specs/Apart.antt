@@ -5,7 +5,7 @@ use Rattle.rules.specs.declared.TokenKind.TheVariants as kind
 use Rattle.rules.specs.Bytes.{bytes}
 use Rattle.rules.specs.Base.{same}
 use Rattle.rules.specs.Tokens.{Key, absent, named, zero_indexed, Token}
-use Rattle.rules.specs.Sheet.{Param, QueryParams, None, Indexed, Named, options_of}
+use Rattle.rules.specs.Sheet.{Param, QueryParams, NoParams, Indexed, Named, options_of}
 use Rattle.rules.specs.Encode.{encode}
 use Rattle.rules.specs.Rows.{Row, entry_word}
 use Rattle.rules.specs.Computed.{computed, computed_list}
@@ -72,17 +72,17 @@ unnamed v = record { name = []; value = v }
 
 -- a numbered list is one without names
 abbrev the_mode : QueryParams → QueryParams
-the_mode None = None
+the_mode NoParams = NoParams
 the_mode (Indexed vs) = Named (map unnamed vs)
 the_mode (Named ps) = Named ps
 
 abbrev the_names : QueryParams → QueryParams
-the_names None = None
+the_names NoParams = NoParams
 the_names (Indexed vs) = Indexed vs
 the_names (Named ps) = Named (map (λ (p : Param). unnamed p.value) ps)
 
 abbrev the_number : QueryParams → QueryParams
-the_number None = None
+the_number NoParams = NoParams
 the_number (Indexed vs) = Indexed []
 the_number (Named ps) = Named []
 
@@ -128,15 +128,15 @@ unfirm =
 -- other options, another mode, another number of parameters, another name, another kind, value, key or alias of a token, another keep word
 abbrev pub unlike : List Pair
 unlike =
-    pair the_options (encode (options 0 50 unset) None [] (T "from" ∷ [])) (encode (options 1 50 unset) None [] (T "from" ∷ []))
+    pair the_options (encode (options 0 50 unset) NoParams [] (T "from" ∷ [])) (encode (options 1 50 unset) NoParams [] (T "from" ∷ []))
     ∷ pair (on_params the_mode) (sheet (indexed ("1" ∷ [])) (P "?" ∷ [])) (sheet (calling "") (P "?" ∷ []))
     ∷ pair (on_params the_number) (sheet (indexed ("1" ∷ [])) (P "?" ∷ P "?" ∷ [])) (sheet (indexed ("1" ∷ "2" ∷ [])) (P "?" ∷ P "?" ∷ []))
     ∷ pair (on_params the_names) (sheet (calling "a") (keyed (named (bytes "a")) ∷ [])) (sheet (calling "b") (keyed (named (bytes "a")) ∷ []))
-    ∷ pair (on_tokens the_kind) (sheet None (W "a" ∷ W "b" ∷ [])) (sheet None (T "a" ∷ W "b" ∷ []))
-    ∷ pair (on_tokens the_value) (sheet None (W "a" ∷ [])) (sheet None (W "b" ∷ []))
+    ∷ pair (on_tokens the_kind) (sheet NoParams (W "a" ∷ W "b" ∷ [])) (sheet NoParams (T "a" ∷ W "b" ∷ []))
+    ∷ pair (on_tokens the_value) (sheet NoParams (W "a" ∷ [])) (sheet NoParams (W "b" ∷ []))
     ∷ pair (on_tokens the_key) (sheet (indexed ("1" ∷ "1" ∷ [])) (keyed (zero_indexed (record { 0 = 0 })) ∷ [])) (sheet (indexed ("1" ∷ "1" ∷ [])) (keyed (zero_indexed (record { 0 = 1 })) ∷ []))
-    ∷ pair (on_tokens the_alias) (sheet None (T "a" ∷ W "b" ∷ [])) (sheet None (record { kind = kind.ReservedTopLevel; value = bytes "a"; key = absent; create = true } ∷ W "b" ∷ []))
-    ∷ pair the_keeps (encode (options 1 50 unset) None (bytes "from" ∷ []) (T "from" ∷ [])) (encode (options 1 50 unset) None (bytes "to" ∷ []) (T "from" ∷ []))
+    ∷ pair (on_tokens the_alias) (sheet NoParams (T "a" ∷ W "b" ∷ [])) (sheet NoParams (record { kind = kind.ReservedTopLevel; value = bytes "a"; key = absent; create = true } ∷ W "b" ∷ []))
+    ∷ pair the_keeps (encode (options 1 50 unset) NoParams (bytes "from" ∷ []) (T "from" ∷ [])) (encode (options 1 50 unset) NoParams (bytes "to" ∷ []) (T "from" ∷ []))
     ∷ []
 
 -- the first is refused with 9

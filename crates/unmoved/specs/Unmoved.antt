@@ -1,12 +1,11 @@
 -- Wish 14: two sheets that say the same but for the values of their parameters, and what their two texts and lists then have in common.
-use Rattle.std.specs.Prelude.{◌≡◌, Bool, true, not, ◌&&◌, List, [], ◌∷◌, ◌++◌, map, ℕ, ◌+◌, take, drop}
-use Rattle.std.proofs.Math.Option.{Option, none, some}
+use Rattle.std.specs.Prelude.{◌≡◌, Bool, true, not, ◌&&◌, List, [], ◌∷◌, ◌++◌, map, ℕ, ◌+◌, take, drop, Option, None, Some}
 use Rattle.rules.specs.declared.FormatOptions.{FormatOptions}
 use Rattle.rules.specs.declared.Report.{Report}
 use Rattle.rules.specs.Tokens.{Token}
 use Rattle.rules.specs.Text.{last_or}
 use Rattle.rules.specs.Words.{counts_of}
-use Rattle.rules.specs.Sheet.{Param, QueryParams, None, Indexed, Named, options_of, params_of, keeps_of, tokens_of}
+use Rattle.rules.specs.Sheet.{Param, QueryParams, NoParams, Indexed, Named, options_of, params_of, keeps_of, tokens_of}
 use Rattle.rules.specs.Answer.{report_of, buffer_of}
 use Rattle.rules.specs.Rows.{Row, placeholders, listed_report, listed_buffer, list_after}
 use Rattle.rules.specs.Due.{white}
@@ -17,7 +16,7 @@ use Rattle.twigmantle.specs.Once.{once_listed, once_list}
 
 -- the parameters with every value empty: their mode, their number and their names
 unfoldable pub shape : QueryParams → QueryParams
-shape None = None
+shape NoParams = NoParams
 shape (Indexed vs) = Indexed (map (λ v. []) vs)
 shape (Named ps) = Named (map (λ (p : Param). record { name = p.name; value = [] }) ps)
 
@@ -38,7 +37,7 @@ common_of s =
     }
 
 unfoldable pub values : QueryParams → List (List ℕ)
-values None = []
+values NoParams = []
 values (Indexed vs) = vs
 values (Named ps) = map (λ (p : Param). p.value) ps
 
@@ -86,8 +85,8 @@ rows_of s r = rows_in (placeholders (tokens_of s (counts_of s))) r.list
 
 -- the bytes that a row points at are removed where it has an entry
 unfoldable pub removed : Option ℕ → Row → List ℕ → List ℕ
-removed none r b = b
-removed (some n) r b = take r.start b ++ drop (r.start + r.len) b
+removed None r b = b
+removed (Some n) r b = take r.start b ++ drop (r.start + r.len) b
 
 -- the last row goes first: what is removed stands after all that is still to go
 unfoldable pub left : List Row → List ℕ → List ℕ

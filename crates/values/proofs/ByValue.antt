@@ -1,14 +1,11 @@
 -- Where a token's value is a sign, the sign's rule is the rule. Assumes nothing.
-use mathlib.Core.Path.{◌≡◌, refl, ◌∙◌}
+use mathlib.Core.Path.{◌≡◌, ◌∙◌}
 use mathlib.Core.Bool.{Bool, true, false}
-use mathlib.Core.List.{List, [], ◌∷◌}
+use mathlib.Core.List.{List}
 use Prim.Native.Nat.{ℕ}
 use Prim.Native.String.{String}
-use lib.Dec.{eqb}
 use lib.ListN.{length}
-use native.Mathlib.Omega.{arith}
-use borrow.Author.Tests.{eqb-true}
-use Rattle.stacks.proofs.StackLaws.{left-of, right_of}
+use Rattle.ascii.proofs.RunLaws.{same_true}
 use Rattle.rules.specs.Base.{choose, same}
 use Rattle.rules.specs.Bytes.{bytes}
 use Rattle.rules.specs.Sheet.{Env}
@@ -18,18 +15,6 @@ use Rattle.state.specs.declared.State.{State as Code}
 use Rattle.state.specs.declared.Context.{Context}
 use Rattle.state.specs.Of.{word_of, state_of, env_in, Handled}
 use Rattle.values.specs.On.{on_value}
-
-no_way : {A : Type 0} → false ≡ true → A
-no_way e = absurd (let z : ◌≡◌ {A = ℕ} 0 1 = cc in omega arith)
-
-same_true : (a b : List ℕ) → same a b ≡ true → a ≡ b
-same_true [] [] h = refl
-same_true [] (y ∷ ys) h = no_way h
-same_true (x ∷ xs) [] h = no_way h
-same_true (x ∷ xs) (y ∷ ys) h =
-    let p = eqb-true x y (left-of (eqb x y) (same xs ys) h) in
-    let q = same_true xs ys (right_of (eqb x y) (same xs ys) h) in
-    cc
 
 module _ (s : List ℕ) (x : Context) (i : ℕ) (st : Code) (d : List ℕ) (r : Code) (q : List ℕ) where
   abbrev ruled : (Env → List ℕ → State → State) → State

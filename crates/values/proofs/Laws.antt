@@ -2,12 +2,11 @@
 use mathlib.Core.Path.{◌≡◌, sym, ◌∙◌}
 use mathlib.Core.Bool.{Bool, true, false, not}
 use mathlib.Core.List.{List}
-use Prim.Native.Nat.{ℕ, ◌+◌, ◌<◌}
+use Prim.Native.Nat.{ℕ, ◌+◌}
 use lib.ListN.{length}
 use Rattle.rules.specs.declared.SpanInfo.{SpanInfo}
 use Rattle.rules.specs.Base.{or_zero}
 use Rattle.rules.specs.Text.{append, is_lower}
-use lib.Dec.{leb}
 use Rattle.rules.specs.Sheet.{env_of}
 use Rattle.rules.specs.State.{State}
 use Rattle.rules.specs.Indentation.{Indentation, no_indentation, indent_level, previous_reserved, previous_top_level_reserved}
@@ -16,7 +15,7 @@ use Rattle.rules.specs.Formatter.{format_no_change, format_with_spaces, format_w
 use Rattle.ascii.specs.Part.{part as bytes}
 use Rattle.text.specs.Held.{text_of, Laid}
 use Rattle.text.specs.declared.Text.{Text as CodeText}
-use Rattle.indentation.specs.Of.{indentation_of, word_in, span_in, Stands}
+use Rattle.indentation.specs.Of.{indentation_of, Stands}
 use Rattle.indentation.specs.declared.Indentation.{Indentation as Stacks}
 use Rattle.inline_block.specs.Of.{inline_block_of}
 use Rattle.query.specs.Query
@@ -26,12 +25,8 @@ use Rattle.state.specs.declared.State.{State as Code}
 use Rattle.state.specs.declared.Context.{Context}
 use Rattle.state.proofs.Words.{none-words, last-reserved, last-top-level}
 use Rattle.state.specs.Of.{value_in, word_of, state_of, with_text, with_indentation, Ready, env_in, here_in, Handled}
-use Rattle.indentation.specs.declared.Word.{Word}
-use Rattle.indentation.specs.declared.Word.TheVariants as word
-use Rattle.indentation.specs.declared.TopLevel.{TopLevel}
-use Rattle.indentation.specs.declared.TopLevel.TheVariants as top
+use Rattle.std.specs.Prelude.{Option, Some}
 use Rattle.rules.specs.Bytes.{bytes as text}
-use Rattle.state.specs.Below.{WordBelow}
 use Rattle.state.proofs.Below.{none_below}
 use Rattle.state.proofs.Laws.{by_value, by-halves, level_is, value-is}
 use Rattle.values.specs.Comma.{limit_in, breaks_in}
@@ -79,33 +74,20 @@ module _ (s : List ℕ) (x : Context) (i : ℕ) (st : Code) (d : List ℕ) (read
 
 -- ---- the tests of a comma
 
-module _ (s : List ℕ) (x : Context) (w : Word) where
-  pub limit_inside : (n : ℕ) → w ≡ word.Token n → WordBelow x.counts.tokens (word_in w) → n < x.counts.tokens
-  unfolding word_in
-  limit_inside n e b = rw e at b
-
-  pub by-no-word : w ≡ word.Nothing → false ≡ limit_in s x (word_in w)
-  unfolding word_in limit_in
-  by-no-word e = rw e
-
-  pub by_word : (n : ℕ) (v : Value) (b : Bool) → w ≡ word.Token n → v ≡ value_in s x n → b ≡ is_lower (bytes s v.start v.len) (text "limit") → b ≡ limit_in s x (word_in w)
-  unfolding word_in limit_in
-  by_word n v b e f g = rw (e, g, value-is s x n v f)
-
-pub by_span : (most : ℕ) (last : TopLevel) (sp : SpanInfo) → last ≡ top.Span sp → leb sp.full_span most ≡ span_within most (span_in last)
-unfolding span_within span_in
-by_span most last sp e = rw e
+pub by_word : (s : List ℕ) (x : Context) (n : ℕ) (v : Value) (b : Bool) → v ≡ value_in s x n → b ≡ is_lower (bytes s v.start v.len) (text "limit") → b ≡ limit_in s x (Some n)
+unfolding limit_in
+by_word s x n v b f g = rw (g, value-is s x n v f)
 
 module _ (s : List ℕ) (x : Context) (active : Bool) (i : Indentation ℕ) where
   pub by-active : active ≡ true → false ≡ breaks_in s x active i
   unfolding breaks_in
   by-active e = rw e
 
-  pub by-limit : (w : Word) (b : Bool) → active ≡ false → word_in w ≡ previous_reserved i → b ≡ limit_in s x (word_in w) → b ≡ true → false ≡ breaks_in s x active i
+  pub by-limit : (w : Option ℕ) (b : Bool) → active ≡ false → w ≡ previous_reserved i → b ≡ limit_in s x w → b ≡ true → false ≡ breaks_in s x active i
   unfolding breaks_in
   by-limit w b a e f t = rw (a, ← e, ← f, t)
 
-  pub by-within : (w : Word) (b d : Bool) (most : ℕ) (last : TopLevel) → active ≡ false → word_in w ≡ previous_reserved i → b ≡ limit_in s x (word_in w) → b ≡ false
-      → most ≡ or_zero x.options.max_inline_arguments → span_in last ≡ previous_top_level_reserved i → d ≡ span_within most (span_in last) → not d ≡ breaks_in s x active i
+  pub by-within : (w : Option ℕ) (b d : Bool) (most : ℕ) (last : Option SpanInfo) → active ≡ false → w ≡ previous_reserved i → b ≡ limit_in s x w → b ≡ false
+      → most ≡ or_zero x.options.max_inline_arguments → last ≡ previous_top_level_reserved i → d ≡ span_within most last → not d ≡ breaks_in s x active i
   unfolding breaks_in
   by-within w b d most last a e f t g h k = rw (a, ← e, ← f, t, k, g, h)

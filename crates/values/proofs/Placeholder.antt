@@ -1,13 +1,12 @@
 -- A placeholder shows what the rules show, hands its counter on, and says where it had it from. Assumes nothing.
 use mathlib.Core.Path.{◌≡◌, sym, ap, ◌∙◌}
 use mathlib.Core.Bool.{Bool}
-use mathlib.Core.Option.{some}
+use Rattle.std.specs.Prelude.{if◌then◌else◌}
 use mathlib.Core.List.{List}
 use Prim.Native.Nat.{ℕ, suc, ◌+◌, ◌≤◌, ◌<◌}
 use native.Mathlib.Numerals.{add-one}
 use native.Mathlib.Omega.{arith}
 use lib.ListN.{length}
-use Rattle.std.specs.Prelude.{if◌then◌else◌}
 use Rattle.rules.specs.declared.Counts.{Counts}
 use Rattle.rules.specs.declared.Token.{Token}
 use Rattle.rules.specs.Words.{token_at, body_at}
@@ -30,27 +29,9 @@ use Rattle.state.specs.declared.State.{State as Code}
 use Rattle.state.specs.declared.Context.{Context}
 use Rattle.state.specs.Of.{word_of, state_of, Ready, env_in, here_in, Handled}
 use Rattle.state.proofs.Below.{below_up}
-use Rattle.params.specs.declared.Entry.{Entry}
-use Rattle.params.specs.Found.{number_in, Below as Under}
+use Rattle.params.specs.Found.{Below as Under}
 use Rattle.rules.specs.Rows.{entry_word, row_of}
 use Rattle.values.specs.On.{on_token, placed, with_index, RowIn}
-
--- ---- an entry's word
-
-pub word_small : (e : Entry) (n : ℕ) → Under 4294967295 e → e ≡ Entry.At n → n < 4294967296
-word_small e n h q = let b = h n q in omega arith
-
-pub by-entry : (e : Entry) (n r : ℕ) → e ≡ Entry.At n → r ≡ n → r ≡ entry_word (number_in e)
-unfolding entry_word
-by-entry e n r q f = rw q f
-
-entry_at : (e : Entry) (n : ℕ) → number_in e ≡ some n → e ≡ Entry.At n
-entry_at (Entry.At j) n q = let z : j ≡ n = cc in rw z
-entry_at Entry.Nothing n q = absurd (let z : ◌≡◌ {A = ℕ} 0 1 = cc in omega arith)
-
-pub by-none : (e : Entry) → e ≡ Entry.Nothing → 4294967295 ≡ entry_word (number_in e)
-unfolding entry_word
-by-none e q = rw q
 
 module _ (s : List ℕ) (x : Context) (i : ℕ) (st : Code) (d : List ℕ) (ready : Ready s x i st d) where
   abbrev c : Counts
@@ -84,14 +65,14 @@ module _ (s : List ℕ) (x : Context) (i : ℕ) (st : Code) (d : List ℕ) (read
           omega arith
 
       -- its row
-      pub by_row : (w : ℕ) → w ≡ entry_word (number_in shown.entry) → RowIn s x i st d w shown.place.len
+      pub by_row : (w : ℕ) → w ≡ entry_word (shown.entry) → RowIn s x i st d w shown.place.len
       unfolding row_of env_of state_of
       by_row w f =
-          let from : number_in shown.entry ≡ source (params_of s c) (key_read s x.base (token_at s i).key) st.index = rw (← e, ready.known.base) (shown-source s c k st.index shown m key-known) in
+          let from : shown.entry ≡ source (params_of s c) (key_read s x.base (token_at s i).key) st.index = rw (← e, ready.known.base) (shown-source s c k st.index shown m key-known) in
           record {
             entry = f ∙ ap entry_word from;
             len = sym (length_part s (body_at c) shown.place place_inside) ∙ rw (← e, ready.known.base) (ap length (shown-bytes s c k st.index shown m key-known));
-            few = λ j q. entry-few j (entry_at shown.entry j (from ∙ q));
+            few = λ j q. entry-few j (from ∙ q);
           }
 
       pub start_small : x.base + shown.place.start ≤ 65536

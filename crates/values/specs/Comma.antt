@@ -1,6 +1,5 @@
 -- A comma's test, read from the code's stacks.
-use Rattle.std.specs.Prelude.{Bool, not, ◌||◌, List, ℕ}
-use Rattle.std.proofs.Math.Option.{Option}
+use Rattle.std.specs.Prelude.{Bool, not, ◌||◌, List, ℕ, Option}
 use Rattle.rules.specs.Base.{holds, or_zero}
 use Rattle.rules.specs.Bytes.{bytes}
 use Rattle.rules.specs.Text.{is_lower}

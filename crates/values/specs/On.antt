@@ -1,6 +1,5 @@
 -- What a handler reads of its token, and what a placeholder makes of the state.
-use Rattle.std.specs.Prelude.{◌≡◌, Bool, List, ℕ, ◌+◌, ◌<◌, length}
-use Rattle.std.proofs.Math.Option.{some}
+use Rattle.std.specs.Prelude.{◌≡◌, Bool, List, ℕ, ◌+◌, ◌<◌, length, Some}
 use Rattle.rules.specs.declared.Place.{Place}
 use Rattle.rules.specs.Base.{same}
 use Rattle.rules.specs.Bytes.{bytes}
@@ -37,7 +36,7 @@ with_index st t n = record { text = t; indentation = st.indentation; inline_bloc
 pub record RowIn (s : List ℕ) (x : Context) (i : ℕ) (st : Code) (d : List ℕ) (w n : ℕ) : Type 0 where
   pub entry : w ≡ entry_word (row_at s x i st d).entry
   pub len : n ≡ (row_at s x i st d).len
-  pub few : (k : ℕ) → (row_at s x i st d).entry ≡ some k → k < 4294967295
+  pub few : (k : ℕ) → (row_at s x i st d).entry ≡ Some k → k < 4294967295
 
 -- the token is a query separator
 abbrev pub separates : List ℕ → Context → ℕ → Bool

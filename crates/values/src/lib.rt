@@ -3,20 +3,18 @@
 
 ghost use Rattle.std.specs.Prelude.{◌≡◌, false, ◌+◌, ◌≤◌};
 ghost use Rattle.rules.specs.Formatter.{format_no_change, format_with_spaces, format_with_space_after, format_without_spaces, format_comma, format_query_separator, format_placeholder, format_by_value, span_within};
-ghost use Rattle.indentation.specs.Of.{word_in, span_in, indentation_of, Clean};
+ghost use Rattle.indentation.specs.Of.{indentation_of, Clean};
 ghost use Rattle.state.specs.Of.{Known, Ready, Handled, with_text};
 ghost use Rattle.state.specs.Below.{WordBelow, Below};
 ghost use Rattle.values.specs.Comma.{limit_in, breaks_in};
 ghost use Rattle.rules.specs.Rows.{entry_word};
-ghost use Rattle.params.specs.Found.{number_in, Below as Under};
+ghost use Rattle.params.specs.Found.{Below as Under};
 ghost use Rattle.values.specs.On.{on_value, on_token, placed, with_index, separates, RowIn};
 
-use ahead::or_zero;
 use around::is_byte;
-use indentation::{Indentation, TopLevel, Word};
-use params::Entry;
+use indentation::Indentation;
 use query::Value;
-use rules::Place;
+use rules::{Place, SpanInfo};
 use state::{Context, State, value_of};
 use text::Text;
 use tokens::{to_usize, token_at};
@@ -75,25 +73,27 @@ pub fn format_without_spaces(query: &mut [u8], s: State, sheet: &[u8], x: Contex
 // ---- a comma
 
 // The last reserved word is LIMIT.
-fn is_limit(sheet: &[u8], x: Context, w: Word) -> bool
-    requires { (Known sheet.now x) × (WordBelow x.counts.tokens (word_in w)) }
-    ensures { result ≡ limit_in sheet.now x (word_in w) }
+#[tactic(auto, using(crate::proofs::Laws::by_word), unfolding(crate::specs::Comma::limit_in))]
+fn is_limit(sheet: &[u8], x: Context, w: Option<u16>) -> bool
+    requires { (Known sheet.now x) × (WordBelow x.counts.tokens w) }
+    ensures { result ≡ limit_in sheet.now x w }
 {
     match w {
-        Word::Nothing => false,
-        Word::Token(n) => {
+        None => false,
+        Some(n) => {
             let v = value_of(sheet, x, n as usize);
             ascii::is_lower(sheet, v.start, v.len, b"limit")
         }
     }
 }
 
-fn span_within(most: u32, last: TopLevel) -> bool
-    ensures { result ≡ span_within most (span_in last) }
+#[tactic(auto, unfolding(rules::specs::Formatter::span_within))]
+fn span_within(most: u32, last: Option<SpanInfo>) -> bool
+    ensures { result ≡ span_within most last }
 {
     match last {
-        TopLevel::Nothing => false,
-        TopLevel::Span(sp) => sp.full_span <= most,
+        None => false,
+        Some(sp) => sp.full_span <= most,
     }
 }
 
@@ -110,7 +110,7 @@ fn comma_breaks(sheet: &[u8], x: Context, active: bool, stacks: Indentation) -> 
     }
     let o = x.options;
     let limit = o.max_inline_arguments;
-    !span_within(or_zero(limit), last.top_level_reserved())
+    !span_within(limit.unwrap_or(0), last.top_level_reserved())
 }
 
 pub fn format_comma(query: &mut [u8], s: State, sheet: &[u8], x: Context, i: usize) -> Text
@@ -162,13 +162,14 @@ fn value_in(base: usize, p: Place) -> Value
 }
 
 // An entry's number, in its word of a row.
-fn entry_word(e: Entry) -> u32
+#[tactic(auto, unfolding(rules::specs::Rows::entry_word))]
+fn entry_word(e: Option<usize>) -> u32
     requires { Under 4294967295 e }
-    ensures { result ≡ entry_word (number_in e) }
+    ensures { result ≡ entry_word e }
 {
     match e {
-        Entry::At(n) => n as u32,
-        Entry::Nothing => 4294967295,
+        Some(n) => n as u32,
+        None => u32::MAX,
     }
 }
 

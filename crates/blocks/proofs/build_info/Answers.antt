@@ -1,36 +1,30 @@
-use Rattle.blocks.proofs.Laws.{info, measuring_starts, measuring_ends, by_next, length-room, measuring_closes, measuring_turns, measuring_rests, measuring_same}
+use mathlib.Core.Path.{refl, sym, ap, ◌∙◌}
+use borrow.Author.Tests.{ne_eqb}
+use Rattle.rules.specs.InlineBlock.{part_of}
+use Rattle.blocks.proofs.Laws.{length-room, measuring_closes, measuring_turns}
 use Rattle.std.proofs.Common.{rules}
-use Rattle.blocks.proofs.build_info.Goals.{then-is_rest, else-is_rest+else-closes}
+use Rattle.blocks.proofs.build_info.Goals.{in-Top, in-Newline, in-Open, in-Close+else-block-eq0, in-Comment, in-Rest}
 use Rattle.blocks.proofs.build_info.Goals as goal
 
-pub loop-j-init : goal.loop-j-init
-loop-j-init c =
-    search (rules, measuring_starts)
-
-pub overflow_add-length : goal.overflow_add-length
-overflow_add-length c =
-    let fits = length-room _ _ _ _ (info c.loop-j.length c.loop-j.level c.loop-j.start c.loop-j.span c.loop-j.forbidden c.loop-j.reserved) _ c.loop-j.invariant c.value_len-length.result c.requires.readable c.loop-j-test.true c.value_len-length.ensures in
+pub overflow_add-block : goal.overflow_add-block
+overflow_add-block c =
+    let fits = length-room _ _ _ _ _ _ c.loop-j.invariant c.requires.readable c.loop-j-test.true _ c.value_len.ensures in
     search (rules, fits)
 
-pub returns-then-closes : goal.returns-then-closes
-returns-then-closes c =
-    let b = info c.loop-j.length c.loop-j.level c.loop-j.start c.loop-j.span c.loop-j.forbidden c.loop-j.reserved in
-    let facts = by_next c.part_of-part.result c.value_len-length.result b _ _ _ _ _ c.level_after-level.ensures c.start_at-start.ensures c.span_at-span.ensures c.is_newline.ensures c.found_yet-reserved.ensures in
-    measuring_closes _ _ _ _ b _ c.loop-j.invariant c.loop-j-test.true _ _ _ _ _ _ _ _ c.kind_at.ensures c.part_of-part.ensures c.value_len-length.ensures facts c.closes.ensures c.if-closes.true
+pub returns-then-block-eq0 : goal.returns-then-block-eq0
+returns-then-block-eq0 c =
+    measuring_closes _ _ _ _ _ _ c.loop-j.invariant c.requires.readable c.loop-j-test.true _ c.value_len.ensures _
+    (sym c.in-Close.is ∙ c.part_of-part.ensures ∙ ap part_of c.kind_at.ensures) c.saturating_sub.ensures c.if-block-eq0.true
 
 pub loop-j-preserved : goal.loop-j-preserved
 loop-j-preserved c =
-    let b = info c.loop-j.length c.loop-j.level c.loop-j.start c.loop-j.span c.loop-j.forbidden c.loop-j.reserved in
-    elim c.if-is_rest.branch [
-      | then-is_rest w ↦
-          measuring_same _ _ _ _ _ _ _ _ _ _ _ _ _ _ _ _ w.level-is w.start-is w.span-is w.forbidden-is w.reserved-is
-          (measuring_rests _ _ _ _ b _ c.loop-j.invariant c.loop-j-test.true _ _ _ _ _ _ c.kind_at.ensures c.part_of-part.ensures c.value_len-length.ensures c.requires.readable c.is_rest.ensures w.if-is_rest.true w.is_byte-separates.ensures w.found_yet-forbidden.ensures)
-      | else-is_rest+else-closes w ↦
-          measuring_same _ _ _ _ _ _ _ _ _ _ _ _ _ _ _ _ w.level-is w.start-is w.span-is w.forbidden-is w.reserved-is
-          (measuring_turns _ _ _ _ b _ c.loop-j.invariant c.loop-j-test.true _ _ _ _ _ _ _ _ c.kind_at.ensures c.part_of-part.ensures c.value_len-length.ensures
-          (by_next c.part_of-part.result c.value_len-length.result b _ _ _ _ _ w.level_after-level.ensures w.start_at-start.ensures w.span_at-span.ensures w.is_newline.ensures w.found_yet-reserved.ensures) w.closes.ensures _ _ c.requires.readable w.if-closes.false w.is_forbidden_token-forbids.ensures w.found_yet-forbidden-else-is_rest.ensures)
+    let part = c.part_of-part.ensures ∙ ap part_of c.kind_at.ensures in
+    let turns = measuring_turns _ _ _ _ _ _ c.loop-j.invariant c.requires.readable c.loop-j-test.true _ c.value_len.ensures in
+    elim c.match-part.branch [
+      | in-Top w ↦ turns _ (sym w.in-Top.is ∙ part) _ _ (w.block-is ∙ rw (w.start_after-block.ensures, w.span_after.ensures)) c.is_byte.ensures refl
+      | in-Newline w ↦ turns _ (sym w.in-Newline.is ∙ part) _ _ w.block-is c.is_byte.ensures refl
+      | in-Open w ↦ turns _ (sym w.in-Open.is ∙ part) _ _ w.block-is c.is_byte.ensures refl
+      | in-Close+else-block-eq0 w ↦ turns _ (sym w.in-Close.is ∙ part) _ _ (w.block-is ∙ rw w.saturating_sub.ensures) c.is_byte.ensures (ne_eqb _ 0 (λ e. w.if-block-eq0.false (w.saturating_sub.ensures ∙ e)))
+      | in-Comment w ↦ turns _ (sym w.in-Comment.is ∙ part) _ _ w.block-is c.is_byte.ensures refl
+      | in-Rest w ↦ turns _ (sym w.in-Rest.is ∙ part) _ _ w.block-is c.is_byte.ensures refl
     ]
-
-pub returns : goal.returns
-returns c =
-    search (rules, measuring_ends)

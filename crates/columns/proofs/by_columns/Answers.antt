@@ -1,5 +1,5 @@
 use native.Mathlib.Omega.{arith}
-use Rattle.columns.proofs.MeasureLaws.{by-eight, by-run, by_turn, by-rest}
+use Rattle.columns.proofs.MeasureLaws.{by-eight, by_run, by_turn, by_rest}
 use Rattle.std.proofs.Common.{rules}
 use Rattle.columns.proofs.by_columns.Goals as goal
 
@@ -10,7 +10,7 @@ passed-past-requires c =
 
 pub tabbed-m-requires : goal.tabbed-m-requires
 tabbed-m-requires c =
-    let on = by-run c.args.text.now c.args.start c.args.n c.args.from c.loop-i.i c.loop-i.m _ c.requires.0 c.loop-i.invariant (search rules) c.measured-eight.ensures _ _ c.plain_run-run.ensures.0 c.plain_run-run.ensures.1 c.passed-past.ensures in
+    let on = by_run c.args.text.now c.args.start c.args.n c.args.from c.loop-i.i c.loop-i.m _ c.requires.0 c.loop-i.invariant (search rules) c.measured-eight.ensures _ _ c.plain_run-run.ensures.0 c.plain_run-run.ensures.1 c.passed-past.ensures in
     omega (arith, on.narrow)
 
 pub loop-i-preserved : goal.loop-i-preserved
@@ -20,4 +20,4 @@ loop-i-preserved c =
 
 pub returns : goal.returns
 returns c =
-    search (rules, by-rest)
+    search (rules, by_rest)

@@ -1,5 +1,5 @@
 use mathlib.Core.Path.{◌≡◌}
-use Prim.Native.Nat.{◌+◌, ◌-◌, ◌*◌, ◌≤◌}
+use Prim.Native.Nat.{◌+◌, ◌*◌, ◌≤◌}
 use lib.ListN.{drop}
 use Rattle.ascii.specs.Part.{part}
 use Rattle.columns.specs.Measured.{measure}
@@ -7,9 +7,5 @@ use Rattle.columns.proofs.measured.Given as goal
 
 abbrev pub invariant-loop-i : goal.invariant-loop-i
 invariant-loop-i l =
-    (l.i ≤ l.n) × (l.at ≤ l.initial.at + 8 * l.i)
+    (l.at ≤ l.initial.at + 8 * l.i)
     × (measure (record { at = l.at; best = l.best }) (drop l.i (part l.text l.start l.n)) ≡ measure (record { at = l.initial.at; best = l.initial.best }) (part l.text l.start l.n))
-
-abbrev pub decreases-loop-i : goal.decreases-loop-i
-decreases-loop-i l =
-    l.n - l.i

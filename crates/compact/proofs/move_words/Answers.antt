@@ -1,11 +1,11 @@
-use Rattle.compact.proofs.WriteLaws.{words-begin, words-on}
 use Rattle.std.proofs.Common.{rules}
+use Rattle.compact.proofs.WriteLaws.{words-begin, words-on}
 use Rattle.compact.proofs.move_words.Goals as goal
 
 pub loop-k-init : goal.loop-k-init
 loop-k-init c =
-    search (rules, words-begin)
+    words-begin c.args.sheet.now c.args.c c.args.out.now
 
 pub loop-k-preserved : goal.loop-k-preserved
 loop-k-preserved c =
-    (search rules, words-on c.args.sheet.now c.args.c c.requires.sheeted.0 c.args.out.now c.loop-k.out c.loop-k.k c.loop-k.invariant.1 _ (search rules) c.move_word.ensures, search rules)
+    words-on c.args.sheet.now c.args.c c.requires.sheeted.0 c.args.out.now c.loop-k.out c.loop-k.k c.loop-k.invariant _ (search rules) c.move_word.ensures

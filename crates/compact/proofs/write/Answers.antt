@@ -9,7 +9,7 @@ overflow_add-base c =
 
 pub returns-then-room-base : goal.returns-then-room-base
 returns-then-room-base c =
-    let all = by-eleven c.args.sheet.now c.args.c c.requires.sheeted.0 c.args.out.now _ c.body_at-base.result c.args.kept c.body_at-base.ensures c.requires.kept_value c.fill.ensures c.if-room-base.true in record { value = all.0; out_after = all.1 }
+    let all = by-eleven c.args.sheet.now c.args.c c.requires.sheeted.0 c.args.out.now _ c.body_at-base.result c.args.kept c.body_at-base.ensures c.requires.kept_value (c.fill.ensures.after (λ y e. e)) c.if-room-base.true in record { value = all.0; out_after = all.1 }
 
 pub overflow_cast-kept : goal.overflow_cast-kept
 overflow_cast-kept c =
@@ -17,4 +17,4 @@ overflow_cast-kept c =
 
 pub returns : goal.returns
 returns c =
-    let all = by_written c.args.sheet.now c.args.c c.requires.sheeted.0 c.args.out.now _ c.body_at-base.result c.args.kept c.body_at-base.ensures c.requires.kept_value c.fill.ensures _ _ c.move_words.ensures c.copy_kept.ensures c.if-room-base.false in record { value = all.0; out_after = all.1 }
+    let all = by_written c.args.sheet.now c.args.c c.requires.sheeted.0 c.args.out.now _ c.body_at-base.result c.args.kept c.body_at-base.ensures c.requires.kept_value (c.fill.ensures.after (λ y e. e)) _ _ c.move_words.ensures c.copy_kept.ensures c.if-room-base.false in record { value = all.0; out_after = all.1 }

@@ -1,14 +1,10 @@
-use mathlib.Core.Path.{◌≡◌, refl, ap, ◌∙◌}
-use Prim.Native.Nat.{◌≤◌}
-use native.Mathlib.Omega.{arith}
-use borrow.Author.Tests.{le-leb}
-use lib.ListN.{length, length-replicate}
-use Rattle.head.proofs.HeadLaws.{stored, stored-head}
+use Rattle.std.proofs.Common.{◌∙◌, arith, length}
+use Rattle.head.proofs.HeadLaws.{stored-head}
 use Rattle.head.proofs.head_with.Goals as goal
 
-pub returns : goal.returns
-returns c =
-    let n = length c.args.out.now in
-    let s : length c.clear.new.out ≡ n = ap length c.clear.ensures ∙ length-replicate n 0 in
-    let h : 48 ≤ n = omega (arith, s, c.if-out-lt48.false) in
-    rw (le-leb 48 n h) (record { value = refl; out_after = ap (stored c.args.top_level) c.clear.ensures ∙ stored-head c.args.top_level n h })
+pub returns-clause-out_after : goal.returns-clause-out_after
+returns-clause-out_after c =
+    stored-head c.args.top_level (length c.args.out.now) (omega (arith, c.fill.ensures.len, c.if-out-lt48.false)) _ _ _
+    (c.fill.ensures.after (λ y e. e))
+    (c.copy_from_slice.ensures.after ∙ c.to_le_bytes.ensures)
+    (c.copy_from_slice-2.ensures.after ∙ c.to_le_bytes-2.ensures)

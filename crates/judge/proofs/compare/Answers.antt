@@ -1,26 +1,10 @@
-use Prim.Native.Nat.{◌-◌}
-use borrow.Author.Tests.{not-true, not-false}
 use Rattle.fmt_switch.specs.Of.{switch_of}
-use Rattle.judge.proofs.TokenLaws.{walking_begins, walking_no, walking_on, walking_yes, walking_more}
+use Rattle.judge.proofs.TokenLaws.{walking_no, walking_on}
 use Rattle.std.proofs.Common.{rules}
 use Rattle.judge.proofs.compare.Goals as goal
 
-pub loop-i-init : goal.loop-i-init
-loop-i-init c =
-    search (rules, walking_begins)
-
-pub returns-then-not-one : goal.returns-then-not-one
-returns-then-not-one c =
-    walking_no c.args.sheet.now c.args.c c.args.text.now c.loop-i.at c.loop-i.index c.loop-i.i (switch_of c.loop-i.switch) c.loop-i.invariant c.loop-i-test.true c.body_at-base.result c.body_at-base.ensures _ c.token_at-t.ensures _ c.turn_at-turn.ensures _ c.due_of-due.ensures _ c.reach_due-one.ensures (not-true _ c.if-not-one.true)
+pub returns-in_default : goal.returns-in_default
+returns-in_default c = search (rules, walking_no)
 
 pub loop-i-preserved : goal.loop-i-preserved
-loop-i-preserved c =
-    walking_on c.args.sheet.now c.args.c c.args.text.now c.loop-i.at c.loop-i.index c.loop-i.i (switch_of c.loop-i.switch) c.loop-i.invariant c.loop-i-test.true c.body_at-base.result c.body_at-base.ensures _ c.token_at-t.ensures _ c.turn_at-turn.ensures _ c.due_of-due.ensures _ c.reach_due-one.ensures (not-false _ c.if-not-one.false) _ c.after-switch.ensures
-
-pub returns-then-only_white : goal.returns-then-only_white
-returns-then-only_white c =
-    search (rules, walking_yes)
-
-pub returns : goal.returns
-returns c =
-    search (rules, walking_more)
+loop-i-preserved c = walking_on c.args.sheet.now c.args.c c.args.text.now c.loop-i.at c.loop-i.index c.loop-i.i (switch_of c.loop-i.switch) c.loop-i.invariant c.loop-i-test.true _ c.body_at-base.ensures _ c.token_at-t.ensures _ c.turn_at-turn.ensures _ c.due_of-due.ensures _ c.reach_due.ensures c.in-Some.end c.in-Some.is _ c.after-switch.ensures

@@ -1,12 +1,6 @@
-use Prim.Native.Nat.{◌-◌}
 use Rattle.fmt_switch.specs.Of.{switch_of}
 use Rattle.judge.proofs.TokenLaws.{Walking}
 use Rattle.judge.proofs.compare.Given as goal
 
 abbrev pub invariant-loop-i : goal.invariant-loop-i
-invariant-loop-i l =
-    Walking l.sheet l.c l.text l.at l.index l.i (switch_of l.switch)
-
-abbrev pub decreases-loop-i : goal.decreases-loop-i
-decreases-loop-i l =
-    l.n - l.i
+invariant-loop-i l = Walking l.sheet l.c l.text l.at l.index l.i (switch_of l.switch)

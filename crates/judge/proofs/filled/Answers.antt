@@ -3,5 +3,4 @@ use Rattle.std.proofs.Common.{rules}
 use Rattle.judge.proofs.filled.Goals as goal
 
 pub returns : goal.returns
-returns c =
-    search (rules, due-filled)
+returns c = search (rules, due-filled)

@@ -1,4 +1,3 @@
-use Prim.Native.Nat.{◌-◌, ◌≤◌}
 use mathlib.Core.Path.{◌≡◌}
 use Rattle.rules.specs.Base.{same, any_of}
 use Rattle.rules.specs.Words.{body_at}
@@ -7,9 +6,4 @@ use Rattle.keeps.proofs.Laws.{kept_from}
 use Rattle.keeps.proofs.is_keep.Given as goal
 
 abbrev pub invariant-loop-i : goal.invariant-loop-i
-invariant-loop-i l =
-    (l.i ≤ l.c.keeps) × (kept_from l.sheet l.c (body_part l.sheet (body_at l.c) l.p) l.i ≡ any_of (same (body_part l.sheet (body_at l.c) l.p)) (keeps_of l.sheet l.c))
-
-abbrev pub decreases-loop-i : goal.decreases-loop-i
-decreases-loop-i l =
-    l.c.keeps - l.i
+invariant-loop-i l = any_of (same (body_part l.sheet (body_at l.c) l.p)) (keeps_of l.sheet l.c) ≡ kept_from l.sheet l.c (body_part l.sheet (body_at l.c) l.p) l.i

@@ -1,4 +1,3 @@
-use Prim.Native.Nat.{◌-◌, ◌≤◌}
 use lib.Dec.{ltb}
 use lib.ListN.{get_or}
 use Rattle.std.specs.Prelude.{if◌then◌else◌}
@@ -7,8 +6,4 @@ use Rattle.lanes.proofs.ends.Given as goal
 
 abbrev pub invariant-loop-k : goal.invariant-loop-k
 invariant-loop-k l =
-    (l.k ≤ 16) × Mapped l.k (λ k x. if ltb (get_or l.c k 0) 128 then get_or l.c k 0 else x) l.initial.at l.at
-
-abbrev pub decreases-loop-k : goal.decreases-loop-k
-decreases-loop-k l =
-    16 - l.k
+    Mapped l.k (λ k x. if ltb (get_or l.c k 0) 128 then get_or l.c k 0 else x) l.initial.at l.at

@@ -1,12 +1,8 @@
-use Prim.Native.Nat.{◌+◌, ◌-◌, ◌%◌, ◌≤◌}
+use Prim.Native.Nat.{◌+◌, ◌%◌}
 use lib.ListN.{get_or}
 use Rattle.steps.specs.Steps.{Mapped}
 use Rattle.lanes.proofs.phases.Given as goal
 
 abbrev pub invariant-loop-k : goal.invariant-loop-k
 invariant-loop-k l =
-    (l.k ≤ 16) × Mapped l.k (λ k x. get_or l.at k 0 % 8 + 120) l.initial.c l.c
-
-abbrev pub decreases-loop-k : goal.decreases-loop-k
-decreases-loop-k l =
-    16 - l.k
+    Mapped l.k (λ k x. get_or l.at k 0 % 8 + 120) l.initial.c l.c

@@ -1,12 +1,8 @@
-use Prim.Native.Nat.{◌-◌, ◌≤◌}
+use Prim.Native.Nat.{◌*◌, ◌≤◌}
 use Rattle.ascii.specs.Part.{part}
 use Rattle.lines.specs.Marked.{Marked}
 use Rattle.lines.proofs.all_marks.Given as goal
 
-abbrev pub invariant-loop-i : goal.invariant-loop-i
-invariant-loop-i l =
-    (l.i ≤ l.n) × (l.feeds ≤ l.i) × Marked (part l.text l.start l.i) (record { feeds = l.feeds; tab = l.tab })
-
-abbrev pub decreases-loop-i : goal.decreases-loop-i
-decreases-loop-i l =
-    l.n - l.i
+abbrev pub invariant-loop-k : goal.invariant-loop-k
+invariant-loop-k l =
+    (l.feeds ≤ 192 * l.k) × Marked (part l.text l.start (192 * l.k)) (record { feeds = l.feeds; tab = l.tab })

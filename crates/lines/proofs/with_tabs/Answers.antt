@@ -1,12 +1,12 @@
 use native.Mathlib.Omega.{arith}
-use Rattle.columns.proofs.MeasureLaws.{by-rest}
-use Rattle.lines.proofs.StretchLaws.{no-tab-before, by_part, by-tab-line}
+use Rattle.columns.proofs.MeasureLaws.{by_rest}
+use Rattle.lines.proofs.StretchLaws.{no_tab_before, by_part, by-tab-line}
 use Rattle.std.proofs.Common.{rules}
 use Rattle.lines.proofs.with_tabs.Goals as goal
 
 pub without_tabs-lines-requires : goal.without_tabs-lines-requires
 without_tabs-lines-requires c =
-    search (rules, no-tab-before)
+    search (rules, no_tab_before)
 
 pub by_columns-m-requires : goal.by_columns-m-requires
 by_columns-m-requires c =
@@ -19,4 +19,4 @@ loop-i-preserved c =
 
 pub returns : goal.returns
 returns c =
-    search (rules, by-rest)
+    search (rules, by_rest)

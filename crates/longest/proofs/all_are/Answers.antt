@@ -1,7 +1,7 @@
-use Rattle.longest.proofs.SameLaws.{by-same}
+use Rattle.longest.proofs.SameLaws.{by-fold}
 use Rattle.std.proofs.Common.{rules}
 use Rattle.longest.proofs.all_are.Goals as goal
 
-pub loop-i-preserved : goal.loop-i-preserved
-loop-i-preserved c =
-    search (rules, by-same)
+pub returns : goal.returns
+returns c =
+    by-fold c.args.text.now c.args.start c.args.n c.args.b c.fold.result c.requires (search rules)

@@ -5,14 +5,14 @@ use Rattle.longest.proofs.flags.Goals as goal
 
 pub overflow_add-bits : goal.overflow_add-bits
 overflow_add-bits c =
-    let h = has_room c.args.text.now c.args.at c.args.far c.loop-k.k c.loop-k.bits c.loop-k-test.true c.loop-k.invariant.1 in
+    let h = has_room c.args.text.now c.args.at c.args.far c.loop-k.k c.loop-k.bits c.loop-k-test.true c.loop-k.invariant in
     omega arith
 
 pub overflow_add-bits-in-loop-k : goal.overflow_add-bits-in-loop-k
 overflow_add-bits-in-loop-k c =
-    let h = has_room c.args.text.now c.args.at c.args.far c.loop-k.k c.loop-k.bits c.loop-k-test.true c.loop-k.invariant.1 in
+    let h = has_room c.args.text.now c.args.at c.args.far c.loop-k.k c.loop-k.bits c.loop-k-test.true c.loop-k.invariant in
     search rules
 
 pub loop-k-preserved : goal.loop-k-preserved
 loop-k-preserved c =
-    (search rules, one_more c.args.text.now c.args.at c.args.far c.loop-k.k c.loop-k.bits _ c.loop-k-test.true c.loop-k.invariant.1 c.equal.ensures.0 c.equal.ensures.1)
+    one_more c.args.text.now c.args.at c.args.far c.loop-k.k c.loop-k.bits _ c.loop-k-test.true c.loop-k.invariant c.from.ensures (search rules)

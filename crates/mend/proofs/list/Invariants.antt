@@ -1,11 +1,7 @@
-use Prim.Native.Nat.{◌-◌}
-use Rattle.mend.proofs.ListLaws.{Listing}
+use Rattle.std.proofs.Common.{◌≡◌, ◌*◌, length}
+use Rattle.mend.specs.Items.{changed_to, report_of}
 use Rattle.mend.proofs.list.Given as goal
 
 abbrev pub invariant-loop-k : goal.invariant-loop-k
 invariant-loop-k l =
-    Listing l.sheet l.c l.initial.report l.report l.at l.k
-
-abbrev pub decreases-loop-k : goal.decreases-loop-k
-decreases-loop-k l =
-    l.items - l.k
+    (l.at ≡ 3 * length (changed_to l.sheet l.c l.k)) × (l.report ≡ report_of (length l.initial.report) (changed_to l.sheet l.c l.k))

@@ -1,11 +1,5 @@
-use Prim.Native.Nat.{◌-◌}
 use Rattle.mend.proofs.WriteLaws.{Writing}
 use Rattle.mend.proofs.write.Given as goal
 
 abbrev pub invariant-loop-i : goal.invariant-loop-i
-invariant-loop-i l =
-    Writing l.initial.sheet l.c l.sheet l.i
-
-abbrev pub decreases-loop-i : goal.decreases-loop-i
-decreases-loop-i l =
-    l.n - l.i
+invariant-loop-i l = Writing l.initial.sheet l.c l.i l.sheet

@@ -1,11 +1,6 @@
-use Prim.Native.Nat.{◌-◌, ◌≤◌}
 use Rattle.narrow.specs.Narrow.{Laned}
 use Rattle.narrow.proofs.sixteen_on.Given as goal
 
 abbrev pub invariant-loop-k : goal.invariant-loop-k
 invariant-loop-k l =
-    (l.k ≤ 16) × Laned l.t l.u l.k l.initial.c l.initial.h l.initial.g l.initial.n l.c l.h l.g l.n
-
-abbrev pub decreases-loop-k : goal.decreases-loop-k
-decreases-loop-k l =
-    16 - l.k
+    Laned l.t l.u l.k l.initial.c l.initial.h l.initial.g l.initial.n l.c l.h l.g l.n

@@ -1,4 +1,3 @@
-use Prim.Native.Nat.{◌-◌, ◌≤◌}
 use mathlib.Core.Path.{◌≡◌}
 use Rattle.rules.specs.Words.{body_at}
 use Rattle.rules.specs.Sheet.{body_part}
@@ -7,9 +6,4 @@ use Rattle.params.proofs.EntryLaws.{named_from}
 use Rattle.params.proofs.find_by_name.Given as goal
 
 abbrev pub invariant-loop-i : goal.invariant-loop-i
-invariant-loop-i l =
-    (l.i ≤ l.c.params) × (named_from l.sheet l.c (body_part l.sheet (body_at l.c) l.name) l.i ≡ entry_named l.sheet l.c (body_part l.sheet (body_at l.c) l.name))
-
-abbrev pub decreases-loop-i : goal.decreases-loop-i
-decreases-loop-i l =
-    l.c.params - l.i
+invariant-loop-i l = entry_named l.sheet l.c (body_part l.sheet (body_at l.c) l.name) ≡ named_from l.sheet l.c (body_part l.sheet (body_at l.c) l.name) l.i

@@ -4,7 +4,3 @@ use Rattle.rows.proofs.clip.Given as goal
 abbrev pub invariant-loop-i : goal.invariant-loop-i
 invariant-loop-i l =
     Clipping l.initial.rows l.count l.low l.rows l.i
-
-abbrev pub decreases-loop-i : goal.decreases-loop-i
-decreases-loop-i l =
-    l.i

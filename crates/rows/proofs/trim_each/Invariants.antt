@@ -5,7 +5,3 @@ use Rattle.rows.proofs.trim_each.Given as goal
 abbrev pub invariant-loop-i : goal.invariant-loop-i
 invariant-loop-i l =
     Left (trims l.end l.lead) l.initial.rows l.count l.rows l.i
-
-abbrev pub decreases-loop-i : goal.decreases-loop-i
-decreases-loop-i l =
-    l.i

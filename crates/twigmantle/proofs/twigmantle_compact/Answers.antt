@@ -8,26 +8,11 @@ pub compact-requires : goal.compact-requires
 compact-requires c =
     search (rules, answer-sheeted)
 
-pub returns-in-Sound : goal.returns-in-Sound
-returns-in-Sound c =
-    let all = by_written c.args.sheet.now _ _ _ _ _ c.check-found.ensures c.in-Sound.is c.compact.ensures.value c.compact.ensures.out_after in record { value = all.0; out_after = all.1.0; compacts = all.1.1.0; stored = all.1.1.1 }
+pub returns-in-Ok : goal.returns-in-Ok
+returns-in-Ok c =
+    let all = by_written c.args.sheet.now _ _ _ _ _ c.check.ensures c.in-Ok.is c.compact.ensures.value c.compact.ensures.out_after in record { value = all.0; out_after = all.1.0; compacts = all.1.1.0; stored = all.1.1.1 }
 
-pub returns-in-Size : goal.returns-in-Size
+pub returns-in-Err : goal.returns-in-Err
 unfolding compact_as
-returns-in-Size c =
-    let all = by_written c.args.sheet.now _ _ _ _ _ c.check-found.ensures c.in-Size.is c.not_written.ensures.value c.not_written.ensures.out_after in record { value = all.0; out_after = all.1.0; compacts = all.1.1.0; stored = all.1.1.1 }
-
-pub returns-in-Word : goal.returns-in-Word
-unfolding compact_as
-returns-in-Word c =
-    let all = by_written c.args.sheet.now _ _ _ _ _ c.check-found.ensures c.in-Word.is c.not_written-in-Word.ensures.value c.not_written-in-Word.ensures.out_after in record { value = all.0; out_after = all.1.0; compacts = all.1.1.0; stored = all.1.1.1 }
-
-pub returns-in-Place : goal.returns-in-Place
-unfolding compact_as
-returns-in-Place c =
-    let all = by_written c.args.sheet.now _ _ _ _ _ c.check-found.ensures c.in-Place.is c.not_written-in-Place.ensures.value c.not_written-in-Place.ensures.out_after in record { value = all.0; out_after = all.1.0; compacts = all.1.1.0; stored = all.1.1.1 }
-
-pub returns-in-Byte : goal.returns-in-Byte
-unfolding compact_as
-returns-in-Byte c =
-    let all = by_written c.args.sheet.now _ _ _ _ _ c.check-found.ensures c.in-Byte.is c.not_written-in-Byte.ensures.value c.not_written-in-Byte.ensures.out_after in record { value = all.0; out_after = all.1.0; compacts = all.1.1.0; stored = all.1.1.1 }
+returns-in-Err c =
+    let all = by_written c.args.sheet.now _ _ _ _ _ c.check.ensures c.in-Err.is (rw (← c.number.ensures, ← c.place.ensures) c.not_written.ensures.value) (rw (← c.number.ensures, ← c.place.ensures) c.not_written.ensures.out_after) in record { value = all.0; out_after = all.1.0; compacts = all.1.1.0; stored = all.1.1.1 }

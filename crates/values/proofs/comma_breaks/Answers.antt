@@ -19,4 +19,4 @@ returns-then-is_limit c =
 pub returns : goal.returns
 returns c =
     by-within _ _ _ _ _ _ _ _ _ c.if-active.false (by-reserved-in _ c.requires.1 _ _ c.previous_words-last.ensures c.reserved.ensures) c.is_limit.ensures c.if-is_limit.false
-    c.or_zero.ensures (by-top-level-in _ c.requires.1 _ _ c.previous_words-last.ensures c.top_level_reserved.ensures) c.span_within.ensures
+    c.unwrap_or.ensures (by-top-level-in _ c.requires.1 _ _ c.previous_words-last.ensures c.top_level_reserved.ensures) c.span_within.ensures

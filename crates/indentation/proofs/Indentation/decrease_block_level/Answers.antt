@@ -1,16 +1,16 @@
-use mathlib.Core.Path.{refl}
-use Rattle.indentation.proofs.Laws.{left-shorter, left-goes, left-closes}
+use Rattle.indentation.proofs.Laws.{left_goes, left_none, left_block, left_closes}
+use Rattle.indentation.proofs.Indentation.decrease_block_level.Goals.{then-loop-n-test+else-kinds-n-eq-TOP, else-loop-n-test}
 use Rattle.indentation.proofs.Indentation.decrease_block_level.Goals as goal
-
-pub loop-n-smaller : goal.loop-n-smaller
-loop-n-smaller c =
-    rw c.less-n.ensures
-    (left-shorter _ _ c.loop-n.invariant _ _ c.less.ensures c.is_top.ensures c.loop-n-test.true)
 
 pub loop-n-preserved : goal.loop-n-preserved
 loop-n-preserved c =
-    left-goes _ _ c.loop-n.invariant _ _ c.less.ensures c.is_top.ensures _ _ _ _ _ c.loop-n-test.true c.less-n.ensures c.less-s.ensures c.less-p.ensures c.less-level.ensures c.no_previous.ensures
+    left_goes _ _ c.loop-n.invariant _ _ _ c.loop-n-test.true c.if-kinds-n-eq-TOP.true c.saturating_sub-s.ensures c.saturating_sub-p.ensures c.saturating_sub-level.ensures
 
 pub returns : goal.returns
 returns c =
-    left-closes _ _ c.loop-n.invariant _ _ c.less.ensures c.is_top.ensures _ _ _ _ _ c.loop-n-test.false refl c.less-k.ensures c.less_if-to.ensures c.no_previous-2.ensures c.less_if.ensures
+    left_closes _ _ c.loop-n.invariant _ _ _ _ _
+    (elim c.loop-n-test.branch [
+      | then-loop-n-test+else-kinds-n-eq-TOP w ↦ left_block _ _ c.loop-n.invariant w.loop-n-test.true w.if-kinds-n-eq-TOP.false
+      | else-loop-n-test w ↦ left_none _ _ c.loop-n.invariant w.loop-n-test.false
+    ])
+    c.saturating_sub-k.ensures c.from.ensures c.saturating_sub-to.ensures c.from-2.ensures c.saturating_sub.ensures

@@ -1,11 +1,14 @@
-use Rattle.indentation.proofs.Laws.{by-block-if, by-room}
-use Rattle.std.proofs.Common.{rules}
+use Rattle.indentation.proofs.Laws.{block_if}
+use mathlib.Core.Path.{◌≡◌, refl, ◌∙◌}
+use mathlib.Core.Bool.{◌&&◌}
+use borrow.Author.Tests.{lt-ltb, le-ltb}
+use lib.Dec.{eqb, ltb}
+use Rattle.indentation.specs.declared.TheConstants.{BLOCK}
+use Rattle.indentation.proofs.Indentation.increase_block_level.Goals.{then-grows, else-grows}
 use Rattle.indentation.proofs.Indentation.increase_block_level.Goals as goal
-
-pub more_if-requires-3 : goal.more_if-requires-3
-more_if-requires-3 c =
-    search (rules, by-room)
 
 pub returns : goal.returns
 returns c =
-    search (rules, by-block-if)
+    let e : c.if-grows.from ≡ (ltb c.args.self.nkinds 128 && eqb c.block_kind-kind.result BLOCK) =
+    elim c.if-grows.branch [ then-grows w ↦ rw (lt-ltb _ _ w.if-grows.true) w.from-is | else-grows w ↦ w.from-is ∙ (rw (le-ltb _ _ w.if-grows.false)) ] in
+    block_if _ c.requires _ _ _ _ _ _ _ _ refl c.min-at.ensures c.block_kind-kind.ensures c.chosen.ensures c.from-more.ensures e c.from.ensures

@@ -3,4 +3,4 @@ use Rattle.indentation.proofs.Indentation.indent_level.Goals as goal
 
 pub returns : goal.returns
 returns c =
-    by_level c.args.self c.requires _ _ c.less_if.ensures
+    by_level _ c.requires _ _ _ c.from.ensures c.saturating_sub.ensures

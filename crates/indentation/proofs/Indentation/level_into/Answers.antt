@@ -1,11 +1,13 @@
-use Rattle.indentation.proofs.Laws.{by-room, by-level-into}
-use Rattle.std.proofs.Common.{rules}
+use Rattle.indentation.proofs.Laws.{by_level_into}
+use mathlib.Core.Path.{◌≡◌, ap, ◌∙◌}
+use mathlib.Core.Bool.{◌&&◌, not}
+use Rattle.rules.specs.Base.{full}
+use Rattle.indentation.specs.Of.{indentation_of}
+use Rattle.indentation.proofs.Indentation.level_into.Goals.{then-not-folded, else-not-folded}
 use Rattle.indentation.proofs.Indentation.level_into.Goals as goal
-
-pub more_if-requires : goal.more_if-requires
-more_if-requires c =
-    search (rules, by-room)
 
 pub returns : goal.returns
 returns c =
-    by-level-into c.args.self c.requires c.args.folded c.is_full.result _ _ c.is_full.ensures c.both-counts.ensures c.more_if.ensures
+    let e : c.if-not-folded.from ≡ (not c.args.folded && not (full (indentation_of c.args.self).indent_types)) =
+    elim c.if-not-folded.branch [ then-not-folded w ↦ rw w.if-not-folded.true (w.from-is ∙ ap not w.is_full.ensures) | else-not-folded w ↦ w.from-is ∙ (rw w.if-not-folded.false) ] in
+    by_level_into _ c.requires _ _ _ e c.from.ensures

@@ -1,7 +1,7 @@
-use Rattle.indentation.proofs.Laws.{by-noted-reserved}
+use Rattle.indentation.proofs.Laws.{noted_reserved}
 use Rattle.std.proofs.Common.{rules}
 use Rattle.indentation.proofs.Indentation.set_previous_reserved.Goals as goal
 
 pub returns : goal.returns
 returns c =
-    search (rules, by-noted-reserved)
+    search (rules, noted_reserved)
