@@ -1,5 +1,5 @@
 -- Sheets and texts with the verdict that Wish 13 gives, as one table under one claim.
-use Rattle.std.specs.Prelude.{if◌then◌else◌, ◌≡◌, refl, false, List, [], ◌∷◌, ◌++◌, map, ℕ, eqb, Result, Ok, Err}
+use Rattle.std.specs.Prelude.{◌≡◌, refl, false, List, [], ◌∷◌, ◌++◌, map, ℕ}
 use Prim.Native.String.{String}
 use Rattle.rules.specs.declared.TokenKind.TheVariants as kind
 use Rattle.rules.specs.Bytes.{bytes}
@@ -9,35 +9,26 @@ use Rattle.rules.specs.Encode.{encode}
 use Rattle.rules.specs.Computed.{computed}
 use Rattle.rules.specs.Sheets.{tok, W, S, T, P, unset, options, default, lines34, line, sheet6}
 use Rattle.rules.specs.Due.{kept_tokens, in_asked_case, count_next, due_from, due}
-use Rattle.rules.specs.declared.Offence.TheVariants as offence
-use Rattle.foreign.specs.declared.Verdict.{Verdict}
-use Rattle.foreign.specs.declared.Refusal.{Refusal}
-use Rattle.foreign.specs.Foreign.{begins, first_from, barred, unless_at, barred_in, first_barred, has_first, unless_no, compared, judge_tokens, judge_as, judge}
+use Rattle.foreign.specs.declared.Judged.{Judged}
+use Rattle.foreign.specs.Foreign.{begins, first_from, barred, unless_at, barred_in, first_barred, has_first, unless_no, compared, judge_tokens, judge_as, judge, judged_of}
 
--- a sheet, a text, and what is due
+-- a sheet, a text, and the call's numbers for them
 pub record Judging : Type 0 where
   pub sheet : List ℕ
   pub text : List ℕ
-  pub wanted : Result Verdict Refusal
+  pub wanted : Judged
 
-abbrev sheet : List ℕ → QueryParams → List (List ℕ) → List Token → String → Result Verdict Refusal → Judging
-sheet op ps keep ts text v = record { sheet = encode op ps keep ts; text = bytes text; wanted = v }
+abbrev sheet : List ℕ → QueryParams → List (List ℕ) → List Token → String → Judged → Judging
+sheet op ps keep ts text r = record { sheet = encode op ps keep ts; text = bytes text; wanted = r }
 
-abbrev yes : Result Verdict Refusal
-yes = Ok Verdict.Yes
+abbrev yes : Judged
+yes = record { refusal = 0; place = 0; matches = 1; token = 0 }
 
-abbrev no : ℕ → Result Verdict Refusal
-no i = Ok (Verdict.No i)
+abbrev no : ℕ → Judged
+no i = record { refusal = 0; place = 0; matches = 0; token = i }
 
--- by its number and place
-abbrev refused : ℕ → ℕ → Result Verdict Refusal
-refused n p =
-    if eqb n 1 then Err (Refusal.Sheet offence.Size)
-    else if eqb n 2 then Err (Refusal.Sheet (offence.Word p))
-    else if eqb n 3 then Err (Refusal.Sheet (offence.Place p))
-    else if eqb n 4 then Err (Refusal.Sheet (offence.Byte p))
-    else if eqb n 5 then Err (Refusal.Number p)
-    else Err (Refusal.High p)
+abbrev refused : ℕ → ℕ → Judged
+refused n p = record { refusal = n; place = p; matches = 0; token = 0 }
 
 abbrev upper : List ℕ
 upper = options 1 50 unset
@@ -125,12 +116,12 @@ refusals =
 abbrev pub judgings : List Judging
 judgings = wished ++ kept ++ letters ++ parameters ++ refusals
 
-abbrev given : Judging → Result Verdict Refusal
-given j = judge j.sheet j.text
+abbrev given : Judging → Judged
+given j = judged_of (judge j.sheet j.text)
 
-abbrev wanted : Judging → Result Verdict Refusal
+abbrev wanted : Judging → Judged
 wanted j = j.wanted
 
 pub judgings-right : map given judgings ≡ map wanted judgings
-unfolding computed encode kept_tokens in_asked_case count_next due_from due begins first_from barred unless_at barred_in first_barred has_first unless_no compared judge_tokens judge_as judge
+unfolding computed encode kept_tokens in_asked_case count_next due_from due begins first_from barred unless_at barred_in first_barred has_first unless_no compared judge_tokens judge_as judge judged_of
 judgings-right = refl
