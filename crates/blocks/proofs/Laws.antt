@@ -9,6 +9,8 @@ use borrow.Author.Tests.{eq-eqb}
 use Rattle.rules.specs.declared.Part.{Part}
 use Rattle.rules.specs.declared.Part.TheVariants as part
 use Rattle.rules.specs.declared.BlockInfo.{BlockInfo}
+use Rattle.rules.specs.declared.Start.{Start}
+use Rattle.std.specs.Prelude.{Option}
 use Rattle.rules.specs.Base.{same}
 use Rattle.rules.specs.Sheet.{token_of, tokens_from, here_at}
 use Rattle.rules.specs.InlineBlock.{part_of, is_comment, closes_at, level_after, start_after, span_after, measured_in, measured, forbid, build_from, unbuilt, build_info}
@@ -77,6 +79,10 @@ taken_is part.Open l b f = rw (or-false b.has_reserved_tokens)
 taken_is part.Close l b f = rw (or-false b.has_reserved_tokens)
 taken_is part.Comment l b f = rw (or-false b.has_reserved_tokens, or-true b.has_forbidden_tokens)
 taken_is part.Rest l b f = rw (or-false b.has_reserved_tokens)
+
+-- a block by its facts
+abbrev pub info : ℕ → ℕ → Option Start → ℕ → Bool → Bool → BlockInfo
+info l v st sp f z = record { length = l; level = v; start = st; top_level_token_span = sp; has_forbidden_tokens = f; has_reserved_tokens = z }
 
 module _ (s : List ℕ) (base n i : ℕ) (b : BlockInfo) (j : ℕ) (r : Measuring s base n i b j) (q : Readable s base n) (h : j < n) (l : ℕ) (len_is : l ≡ length (token_of s base j).value) where
   left : build_from (token_of s base j ∷ tokens_from s base (j + 1) (n - (j + 1))) b ≡ block_at s base n i
