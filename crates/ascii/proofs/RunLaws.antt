@@ -145,15 +145,13 @@ module _ (s o : List ℕ) (start from n m : ℕ) (h : (start + n ≤ length s) �
   pub by-first : same (part s start 8) (part o from 8) ≡ false → false ≡ same (part s start n) (part o from m)
   by-first e = whole false (by-start-differ s o start from n h.0 within 8 a e)
 
-  module _ (e : same (part s start 8) (part o from 8) ≡ true) (f : same (part s (start + (n - 8)) 8) (part o (from + (n - 8)) 8) ≡ true) where
-    pub by-ends : n ≤ 16 → true ≡ same (part s start n) (part o from m)
-    by-ends b = whole true (by-ends-agree s o start from n h.0 within 8 8 a a (omega arith) e f)
+  pub by-block : (i : ℕ) → i + 64 ≤ n → same (part s (start + i) 64) (part o (from + i) 64) ≡ false → false ≡ same (part s start n) (part o from m)
+  by-block i b e = whole false (by-run-differ s o start from n h.0 within i 64 b e)
 
-    pub by-middle : (r : Bool) → r ≡ same (part s (start + 8) (n - 16)) (part o (from + 8) (n - 16)) → 16 < n → r ≡ same (part s start n) (part o from m)
-    by-middle r g b = whole r (go r refl)
-      where
-        go : (c : Bool) → r ≡ c → c ≡ same (part s start n) (part o from n)
-        go true p = by-ends-agree s o start from n h.0 within (8 + (n - 16)) 8 (omega arith) (omega arith) (omega arith) (by-run-agree s o start from n h.0 within 8 (n - 16) (omega arith) e (sym g ∙ p)) f
-        go false p = by-run-differ s o start from n h.0 within 8 (n - 16) (omega arith) (sym g ∙ p)
+  pub by-step : (i : ℕ) → i < n - 8 → same (part s (start + i) 8) (part o (from + i) 8) ≡ false → false ≡ same (part s start n) (part o from m)
+  by-step i b e = whole false (by-run-differ s o start from n h.0 within i 8 (omega arith) e)
 
-pub ruleset compares = (by-last, by-first, by-ends, by-middle)
+  pub by-ends : same (part s (start + (n - 8)) 8) (part o (from + (n - 8)) 8) ≡ true → (i : ℕ) → i ≤ n → n - 8 ≤ i → same (part s start i) (part o from i) ≡ true → true ≡ same (part s start n) (part o from m)
+  by-ends f i b d e = whole true (by-ends-agree s o start from n h.0 within i 8 b a (omega arith) e f)
+
+pub ruleset compares = (by-last, by-first, by-block, by-step, by-ends)

@@ -6,6 +6,7 @@ use Prim.Native.Nat.{ℕ, ◌+◌, ◌≤◌}
 use native.Mathlib.Omega.{arith}
 use lib.Dec.{eqb}
 use lib.ListN.{length, length-map}
+use Rattle.std.specs.Prelude.{fold}
 use Rattle.std.specs.List.{list_all, zip}
 use Rattle.rules.specs.Base.{same}
 use Rattle.rules.specs.Text.{to_lower, is_lower}
@@ -28,6 +29,31 @@ module _ (s o : List ℕ) (start n from m : ℕ) (h : (start + n ≤ length s) �
       let l = length_part s start n h.0 in
       let r = length_part o from m h.1 in
       sym (unlike (part s start n) (part o from m) (λ e. z (omega arith)))
+
+-- ---- the bytes taken together, by `&`
+
+abbrev taken : Bool → ℕ × ℕ → Bool
+taken all p = all && eqb p.0 p.1
+
+taken-false : (v : List (ℕ × ℕ)) → fold taken false v ≡ false
+taken-false [] = refl
+taken-false (p ∷ ps) = taken-false ps
+
+fold_same : (v w : List ℕ) → length v ≡ length w → fold taken true (zip v w) ≡ same v w
+fold_same [] [] h = refl
+fold_same [] (y ∷ ys) h = absurd (omega arith)
+fold_same (x ∷ xs) [] h = absurd (omega arith)
+fold_same (x ∷ xs) (y ∷ ys) h = go (eqb x y) (fold_same xs ys (omega arith))
+  where
+    go : (c : Bool) → fold taken true (zip xs ys) ≡ same xs ys → fold taken c (zip xs ys) ≡ (c && same xs ys)
+    go true f = f
+    go false f = taken-false (zip xs ys)
+
+pub by_pairs : (s o : List ℕ) (start from n : ℕ) → (start + n ≤ length s) × (from + n ≤ length o) → (r : Bool) → r ≡ fold (λ all (p : ℕ × ℕ). all && eqb p.0 p.1) true (zip (part s start n) (part o from n)) → r ≡ same (part s start n) (part o from n)
+by_pairs s o start from n h r f =
+    let l = length_part s start n h.0 in
+    let k = length_part o from n h.1 in
+    f ∙ fold_same (part s start n) (part o from n) (omega arith)
 
 -- ---- in small letters
 

@@ -10,6 +10,8 @@ use ascii::same_bytes;
 use rules::Place;
 use tokens::to_usize;
 
+// In line in each caller, as `same_bytes` is.
+#[inline(always)]
 #[tactic(auto, using(crate::proofs::SameLaws::parts, crate::proofs::SameLaws::one_start))]
 pub fn same_places(s: &[u8], base: usize, p: Place, q: Place) -> bool
     requires { (Inside s.now base p) × (Inside s.now base q) }
