@@ -31,6 +31,8 @@ pub struct Levels {
 
 // The word is token n.
 // A top-level entry counts for one level: so each level follows from the one before by the number of entries.
+// In line: called, it copies the stacks twice more, and a top-level word takes half as long again.
+#[inline(always)]
 fn levels_around(
     stacks: Indentation,
     level: usize,
