@@ -36,7 +36,6 @@ const FOLDED_BLOCK: u8 = 2;
 // Entries above the counts are zero. The level is the count of entries that aren't folded.
 // An operation takes out the arrays that it changes, each as a local of its own, and branches on numbers alone: so no other array is copied.
 // Stores into the fields take 1.4 times as long, and under an `if` with the counts 1.3 to 2 times.
-// So two tests are joined by `&`: with `&&`, which is a branch, the stacks are copied once more.
 #[derive(Clone, Copy)]
 pub struct Indentation {
     pub kinds: [u8; 128],
@@ -160,7 +159,7 @@ impl Indentation {
         requires { Clean self }
         ensures { Stands (when b (increase_top_level span) (indentation_of self)) result }
     {
-        let grows = b & (self.nkinds < 128);
+        let grows = b && self.nkinds < 128;
         let at = self.nspans.min(127);
         let mut spans = self.spans;
         let old = spans[at];
@@ -209,7 +208,7 @@ impl Indentation {
         requires { Clean self }
         ensures { Stands (when b decrease_top_level (indentation_of self)) result }
     {
-        let ends = b & self.ends_top();
+        let ends = b && self.ends_top();
         let s = self.nspans.saturating_sub(1);
         let mut spans = self.spans;
         let old = spans[s];
