@@ -104,7 +104,7 @@ fn same_run(src: &[u8], start: usize, other: &[u8], from: usize, n: usize) -> bo
     all_same(&src[start..start + n], &other[from..from + n])
 }
 
-// The ends before the rest: most parts that differ differ there. By `==` alone parts of 8 to 15 bytes take 2 to 3 times as long.
+// The ends before the rest: most parts of one length that differ do so there. By `==` alone parts of 8 to 15 bytes take 2 to 3 times as long.
 // In line in each caller: most parts that differ do so in their length, and a call takes longer than that.
 #[inline(always)]
 #[tactic(auto, using(crate::proofs::SameLaws::by_lengths, crate::proofs::RunLaws::compares))]

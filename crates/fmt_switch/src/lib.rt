@@ -47,7 +47,7 @@ static FMT_TABLE: [Row; 9] = [
     Row(OnByte(b'f', b'F', Move::Answer(true)), None),
 ];
 
-// Lent: with a copy of the row the reading takes three times as long.
+// Lent: with a copy of the row the reading takes about twice as long.
 fn row_of(state: usize) -> &'static Row
     requires { state < 9 }
     ensures { row_of result.now ≡ get_or fmt_table state [] }
