@@ -51,7 +51,7 @@ fn mode_of(sheet: &[u8]) -> Mode
 
 // ---- Named
 
-// Not in line in its callers: it would hold fewer values in registers, and take longer where the list is long.
+// Out of line: in its callers it would have fewer registers, and take longer where the list is long.
 #[inline(never)]
 #[tactic(auto, using(crate::proofs::EntryLaws::by_name))]
 fn find_by_name(sheet: &[u8], c: Counts, name: Place) -> Option<usize>

@@ -28,12 +28,12 @@ module _ (s : List ℕ) (base : ℕ) (p q : Place) where
   unfolding body_part
   parts = refl
 
+  pub other_length : Inside s base p → Inside s base q → (p.len ≡ q.len → ⊥) → false ≡ same (body_part s base p) (body_part s base q)
+  other_length hp hq z = sym (unlike (body_part s base p) (body_part s base q) (λ g. z (sym (length_part s base p hp) ∙ g ∙ length_part s base q hq)))
+
   pub one_start : Inside s base p → Inside s base q → p.start ≡ q.start → same (body_part s base p) (body_part s base q) ≡ eqb p.len q.len
   one_start hp hq e = go (eqb p.len q.len) refl
     where
       go : (b : Bool) → eqb p.len q.len ≡ b → same (body_part s base p) (body_part s base q) ≡ b
       go true f = ap (λ (v : List ℕ). same v (body_part s base q)) (one_place s base p q e (eqb-true p.len q.len f)) ∙ same_self (body_part s base q)
-      go false f = unlike (body_part s base p) (body_part s base q) (λ g. eqb-false p.len q.len f (sym (length_part s base p hp) ∙ g ∙ length_part s base q hq))
-
-  pub other_length : Inside s base p → Inside s base q → (p.len ≡ q.len → ⊥) → false ≡ same (body_part s base p) (body_part s base q)
-  other_length hp hq z = sym (unlike (body_part s base p) (body_part s base q) (λ g. z (sym (length_part s base p hp) ∙ g ∙ length_part s base q hq)))
+      go false f = sym (other_length hp hq (eqb-false p.len q.len f))
